@@ -1,0 +1,2 @@
+-- What a channel remembers.
+pub mod Channel

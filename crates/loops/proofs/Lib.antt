@@ -1,0 +1,3 @@
+pub mod Fill
+pub mod Totals
+pub mod Search

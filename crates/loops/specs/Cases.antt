@@ -1,0 +1,13 @@
+-- A choice by a test, and a test as a number.
+use mathlib.Core.Bool.{Bool, true, false}
+use Prim.Native.Nat.{ℕ}
+
+infix 10 if_then_else_
+abbrev pub if_then_else_ : {A : Type 0} → Bool → A → A → A
+if_then_else_ true a b = a
+if_then_else_ false a b = b
+
+-- 1 where the test holds, 0 where not: what counting adds up
+abbrev pub bit : Bool → ℕ
+bit true = 1
+bit false = 0

@@ -1,0 +1,2 @@
+-- SysEx: which ones are for us, and how a MIP message is judged.
+pub mod SysEx

@@ -1,0 +1,97 @@
+// SysEx: what an ended one is to us, and the judgement of a MIP message (document 01, "MIP table, masks, shares"; numbers 5 to 9).
+// Both take the parser that the F7 found, which holds the SysEx's data bytes, for every value of it. Assumes nothing.
+ghost use mathlib.Core.Path.{_≡_};
+ghost use Prim.Native.Nat.{_≤_, _-_};
+ghost use lib.ListN.{drop};
+ghost use Rattle.splitter.specs.Split.{body};
+ghost use Rattle.sysex.specs.SysEx.{kindOf, judged};
+use splitter::Parser;
+use table::Entry;
+use table::Table;
+
+// What an ended SysEx is.
+pub enum Kind {
+    // A MIP message for us, well formed or not.
+    Mip,
+    // GM System On for us.
+    SystemOn,
+    // Anything else: it answers none and changes nothing.
+    Other,
+}
+
+// Whether a MIP message replaces the table.
+pub enum Verdict {
+    // It does.
+    Accepted,
+    // It does not, with its number, 5 to 9.
+    Refused(u8),
+}
+
+// The table is the message's if it is accepted, and empty if not.
+pub struct Judged {
+    pub verdict: Verdict,
+    pub table: Table,
+}
+
+// What the SysEx of parser p is to the device with this own ID.
+pub fn kind(p: Parser, id: u8) -> Kind
+    ensures { λ r. ⌜ r ≡ kindOf id (body p) ⌝ }
+{
+    let b = p.bytes;
+    let us = (b[1] == 0x7F) | (b[1] == id);
+    if (4 <= p.count) & ((b[0] == 0x7F) & (us & ((b[2] == 0x0B) & (b[3] == 0x01)))) {
+        return Kind::Mip;
+    }
+    if (p.count == 4) & ((b[0] == 0x7E) & (us & ((b[2] == 0x09) & (b[3] == 0x01)))) {
+        return Kind::SystemOn;
+    }
+    Kind::Other
+}
+
+fn refuse(number: u8) -> Judged {
+    Judged {
+        verdict: Verdict::Refused(number),
+        table: Table::empty(),
+    }
+}
+
+// The MIP message of parser p, over the whole of it: its pairs start after the four bytes of the head.
+pub fn judge(p: Parser) -> Judged
+    ensures { λ r. ⌜ r ≡ judged (drop 4 (body p)) ⌝ }
+{
+    let n = p.count;
+    if 36 < n {
+        return refuse(5);
+    }
+    if (n <= 4) | (n % 2 == 1) {
+        return refuse(6);
+    }
+    let bytes = p.bytes;
+    let mut t = Table::empty();
+    let mut before: u8 = 0;
+    let mut i: usize = 4;
+    while i < n as usize {
+        let m = bytes[i];
+        let v = bytes[i + 1];
+        if 15 < m {
+            return refuse(7);
+        }
+        if t.lists(m + 1) {
+            return refuse(8);
+        }
+        if v < before {
+            return refuse(9);
+        }
+        let e = Entry {
+            channel: m + 1,
+            value: v,
+        };
+        t = t.push(e);
+        before = v;
+        i += 2;
+    }
+    Judged {
+        verdict: Verdict::Accepted,
+        table: t,
+    }
+}

@@ -1,0 +1,3 @@
+-- The MIP table: who may play, and how much.
+pub mod Table
+pub mod Laws
