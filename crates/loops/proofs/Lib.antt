@@ -1,3 +1,6 @@
+pub mod Compact
 pub mod Fill
+pub mod Padded
 pub mod Totals
 pub mod Search
+pub mod Sweep

@@ -74,3 +74,9 @@ filter-filter {A} p q r (x ∷ l) h = go (q x) (p x) (r x) refl refl refl (h x) 
     go true true c eq ep er e ih = rw (← e, ep) (ap (λ (m : List A). x ∷ m) ih)
     go true false c eq ep er e ih = rw (← e, ep) ih
     go false b c eq ep er e ih = rw (← e) ih
+
+-- tests that agree keep the same
+pub filter-same : {A : Type 0} (p q : A → Bool) (l : List A) → ((x : A) → p x ≡ q x) → filterBy p l ≡ filterBy q l
+unfolding filterBy
+filter-same p q [] h = refl
+filter-same p q (x ∷ l) h = rw (h x, filter-same p q l h)

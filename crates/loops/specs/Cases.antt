@@ -1,6 +1,7 @@
 -- A choice by a test, and a test as a number.
 use mathlib.Core.Bool.{Bool, true, false}
 use Prim.Native.Nat.{ℕ}
+use lib.Dec.{ltb}
 
 infix 10 if_then_else_
 abbrev pub if_then_else_ : {A : Type 0} → Bool → A → A → A
@@ -11,3 +12,7 @@ if_then_else_ false a b = b
 abbrev pub bit : Bool → ℕ
 bit true = 1
 bit false = 0
+
+-- n, but at most m
+abbrev pub atMost : ℕ → ℕ → ℕ
+atMost m n = if ltb n m then n else m

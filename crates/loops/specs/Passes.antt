@@ -3,6 +3,7 @@ use Prim.Native.Nat.{ℕ, zero, suc, _+_}
 use mathlib.Core.Bool.{Bool, not}
 use mathlib.Core.List.{List, [], _∷_, _++_}
 use mathlib.Core.Option.{Option, some, none}
+use lib.ListN.{take, replicate}
 use Rattle.loops.specs.Cases.{if_then_else_, bit}
 
 -- f 0, f 1, .. f (n - 1): an array made by a rule
@@ -29,3 +30,7 @@ firstOf p (x ∷ l) = if p x then some x else firstOf p l
 unfoldable pub count : {A : Type 0} → (A → Bool) → List A → ℕ
 count p [] = 0
 count p (x ∷ l) = bit (p x) + count p l
+
+-- a list in an array of n places, with z in those that it leaves
+unfoldable pub padded : {A : Type 0} → ℕ → A → List A → List A
+padded n z l = take n (l ++ replicate n z)

@@ -1,2 +1,25 @@
-// Ways of going over an array, as definitions (specs/) with one law for each (proofs/): what every loop of this repository is proved by.
-// There is no code here. Assumes nothing.
+// Ways of going over an array, as definitions (specs/) with one law for each (proofs/): what every loop of this repository is proved by;
+// and the small choices that loop bodies make without a branch. Assumes nothing.
+ghost use mathlib.Core.Path.{_≡_};
+ghost use Prim.Native.Nat.{_≤_};
+ghost use Rattle.loops.specs.Cases.{if_then_else_, bit, atMost};
+
+pub fn if_else(c: bool, a: u8, b: u8) -> u8
+    ensures { λ r. ⌜ r ≡ (if c then a else b) ⌝ }
+{
+    if c { a } else { b }
+}
+
+// 1 where the test holds, 0 where not.
+pub fn one(c: bool) -> u8
+    ensures { λ r. ⌜ (r ≡ bit c) × (r ≤ 1) ⌝ }
+{
+    if c { 1 } else { 0 }
+}
+
+// n, but at most m.
+pub fn at_most(m: u8, n: u8) -> u8
+    ensures { λ r. ⌜ (r ≡ atMost m n) × (r ≤ m) ⌝ }
+{
+    if n < m { n } else { m }
+}

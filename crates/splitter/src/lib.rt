@@ -111,13 +111,14 @@ impl Parser {
         }
     }
 
+    // What a status completes: `how` if a SysEx is open, else nothing.
     fn ended(self, how: Completed) -> Completed
         ensures { λ r. ⌜ r ≡ ended self how ⌝ }
     {
-        if self.status == 0xF0 {
-            return how;
+        if self.status != 0xF0 {
+            return Completed::Nothing;
         }
-        Completed::Nothing
+        how
     }
 
     fn take_status(self, b: u8) -> Split

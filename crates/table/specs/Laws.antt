@@ -3,6 +3,7 @@ use Prim.Native.Nat.{ℕ, _+_, _≤_}
 use mathlib.Core.Path.{_≡_}
 use mathlib.Core.Bool.{false}
 use mathlib.Core.List.{List, [], _∷_}
+use lib.ListN.{length}
 use Rattle.table.specs.declared.Entry.{Entry}
 use Rattle.table.specs.Table.{listed}
 
@@ -20,6 +21,13 @@ Distinct (e ∷ l) = (listed (e .channel) l ≡ false) × Distinct l
 abbrev pub Channels : List Entry → Type 0
 Channels [] = Unit {0}
 Channels (e ∷ l) = ((1 ≤ e .channel) × (e .channel ≤ 16)) × Channels l
+
+-- what holds of the entries of every starting table and of every accepted MIP message
+pub record WellFormed (l : List Entry) : Type 0 where
+  pub short : length l ≤ 16
+  pub rising : Rising 0 l
+  pub distinct : Distinct l
+  pub channels : Channels l
 
 -- the sum of the values, or of the shares where the list is one of shares
 abbrev pub sum : List Entry → ℕ

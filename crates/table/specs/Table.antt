@@ -3,9 +3,10 @@ use Prim.Native.Nat.{ℕ, _-_}
 use mathlib.Core.Bool.{Bool, true, false, _&&_, _||_}
 use mathlib.Core.List.{List, [], _∷_, _++_, map}
 use mathlib.Core.Option.{Option, some, none}
-use lib.ListN.{length, take, replicate}
+use lib.ListN.{length, take}
 use lib.Dec.{eqb, leb}
 use Rattle.loops.specs.Cases.{if_then_else_}
+use Rattle.loops.specs.Passes.{padded}
 use Rattle.table.specs.declared.Entry.{Entry}
 use Rattle.table.specs.declared.Table.{Table}
 use Rattle.table.specs.declared.Share.{Share}
@@ -23,7 +24,7 @@ abbrev pub entriesOf : Table → List Entry
 entriesOf t = take (t .count) (t .entries)
 
 unfoldable pub tableOf : List Entry → Table
-tableOf l = record { count = length l; entries = take 16 (l ++ replicate 16 (entry 0 0)) }
+tableOf l = record { count = length l; entries = padded 16 (entry 0 0) l }
 
 -- "At start, the order is 10, 1 to 9, 11 to 16 .. and all sixteen values are P"
 abbrev pub startOrder : List ℕ

@@ -1,9 +1,10 @@
 // The MIP table: which channels may play, and how many notes each is sure of (document 01, "MIP table, masks, shares").
 // By value, for every table value and every P. Assumes nothing.
 ghost use mathlib.Core.Path.{_≡_};
-ghost use Prim.Native.Nat.{_≤_, _-_};
+ghost use Prim.Native.Nat.{_-_};
 ghost use mathlib.Core.List.{[]};
-ghost use Rattle.table.specs.Table.{tableOf, entriesOf, startTable, shareOf, isMasked, maskQuery, shareQuery, listed, pushed};
+ghost use Rattle.table.specs.Table.{tableOf, entriesOf, startTable, shareOf, isMasked, isChannel, maskQuery, shareQuery, listed, pushed};
+use loops::at_most;
 
 // A channel, 1 to 16, and the polyphony needed by it and all listed before it.
 #[repr(C)]
@@ -85,7 +86,7 @@ impl Table {
         }
     }
 
-    // One entry more, of the lowest priority.
+    // One entry more, of the lowest priority. Whatever stands after the old ones is left behind.
     pub fn push(self, e: Entry) -> Self
         ensures { λ r. ⌜ r ≡ pushed self e ⌝ }
     {
@@ -93,7 +94,17 @@ impl Table {
             return self;
         }
         let at = self.count as usize;
-        let mut entries = self.entries;
+        let old = self.entries;
+        let none = Entry {
+            channel: 0,
+            value: 0,
+        };
+        let mut entries = [none; 16];
+        let mut i: usize = 0;
+        while i < at {
+            entries[i] = old[i];
+            i += 1;
+        }
         entries[at] = e;
         Table {
             count: self.count + 1,
@@ -105,11 +116,11 @@ impl Table {
         ensures { λ r. ⌜ r ≡ listed c (entriesOf self) ⌝ }
     {
         let entries = self.entries;
-        let n = at_most_16(self.count);
+        let n = at_most(16, self.count) as usize;
         let mut i: usize = 0;
         while i < n {
             let e = entries[i];
-            if e.channel == c {
+            if c == e.channel {
                 return true;
             }
             i += 1;
@@ -122,12 +133,12 @@ impl Table {
         ensures { λ r. ⌜ r ≡ shareOf self p c ⌝ }
     {
         let entries = self.entries;
-        let n = at_most_16(self.count);
+        let n = at_most(16, self.count) as usize;
         let mut before: u8 = 0;
         let mut i: usize = 0;
         while i < n {
             let e = entries[i];
-            if (e.channel == c) & (e.value <= p) {
+            if (e.value <= p) & (c == e.channel) {
                 return Share::Units(less(e.value, before));
             }
             before = e.value;
@@ -170,16 +181,14 @@ impl Table {
     }
 }
 
-fn at_most_16(n: u8) -> usize {
-    if n < 16 { n as usize } else { 16 }
-}
-
 fn less(a: u8, b: u8) -> u8
     ensures { λ r. ⌜ r ≡ a - b ⌝ }
 {
     if b <= a { a - b } else { 0 }
 }
 
-fn is_channel(c: u8) -> bool {
+fn is_channel(c: u8) -> bool
+    ensures { λ r. ⌜ r ≡ isChannel c ⌝ }
+{
     (1 <= c) & (c <= 16)
 }

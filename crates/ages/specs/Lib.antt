@@ -1,0 +1,2 @@
+-- The order of assignment among the sounding generators.
+pub mod Ages

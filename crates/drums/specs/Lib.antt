@@ -1,0 +1,2 @@
+-- The exclusive groups of drums.
+pub mod Drums

@@ -1,0 +1,115 @@
+-- The parser holds 37 bytes and counts no further, whatever comes: of a SysEx of any length it keeps the first 37 data bytes. An endless SysEx is neither
+-- stored nor overflows, and one that fills the parser is too long for every message that counts.
+-- Assumes nothing.
+use mathlib.Core.Path.{_≡_, refl, sym, ap, _∙_}
+use mathlib.Core.Bool.{Bool, true, false, _||_, not}
+use mathlib.Core.List.{List, [], _∷_, _++_, append-assoc, append-nil}
+use Prim.Native.Nat.{ℕ, zero, suc, _+_, _≤_}
+use native.Mathlib.Numerals.{add-one}
+use native.Mathlib.Omega.{arith}
+use borrow.Author.Tests.{ltb-true, ltb-false}
+use lib.Dec.{leb, ltb, eqb}
+use lib.ListN.{length, take, set, replicate, length-append, length-set}
+use lib.Seq.{take-all, take-suc-set, take-append-le, length-take-le}
+use Rattle.loops.specs.Cases.{if_then_else_}
+use Rattle.splitter.specs.Split.{begun, stored, inSysEx, body, oneDataByte, takesData, completed, dataByte, opened, statusByte, split}
+use Rattle.splitter.specs.declared.Parser.{Parser}
+use Rattle.splitter.specs.declared.Split.{Split}
+
+pub record Bounded (p : Parser) : Type 0 where
+  pub counted : p .count ≤ 37
+  pub held : length (p .bytes) ≡ 37
+
+pub bounded-begun : (s : ℕ) → Bounded (begun s)
+unfolding begun
+bounded-begun s = record { counted = omega arith; held = refl }
+
+pub bounded-stored : (p : Parser) (b : ℕ) → Bounded p → Bounded (stored p b)
+unfolding stored
+bounded-stored p b h = go (ltb (p .count) 37) refl
+  where
+    go : (t : Bool) → ltb (p .count) 37 ≡ t
+        → Bounded (if t then record { status = p .status; count = p .count + 1; bytes = set (p .bytes) (p .count) b } else p)
+    go true e =
+        let k = ltb-true (p .count) 37 e in
+        record { counted = omega arith; held = length-set (p .bytes) (p .count) b ∙ h .held }
+    go false e = h
+
+either : {A : Type 0} (Q : A → Type 0) (t : Bool) {x y : A} → Q x → Q y → Q (if t then x else y)
+either Q true p q = p
+either Q false p q = q
+
+-- after any byte the parser is the one before, that with the byte stored, or one with no data byte yet: what holds of these holds after every byte
+pub after-split : (Q : Parser → Type 0) (p : Parser) (b : ℕ) → Q p → Q (stored p b) → ((s : ℕ) → Q (begun s)) → Q (split p b .parser)
+unfolding split dataByte completed statusByte opened
+after-split Q p b same more none =
+    let R : Split → Type 0 = λ s. Q (s .parser) in
+    let s = p .status in
+    either R (ltb b 0x80)
+    (either R (inSysEx p) more
+    (either R (not (takesData s)) same
+    (either R (oneDataByte s || not (eqb (p .count) 0))
+    (either R (leb 0xF0 s) (none 0) (either R (oneDataByte s) (none s) (none s)))
+    more)))
+    (either R (leb 0xF8 b) same (either R (eqb b 0xF7) (none 0) (either Q (ltb b 0xF4) (none b) (none 0))))
+
+pub bounded-split : (p : Parser) (b : ℕ) → Bounded p → Bounded (split p b .parser)
+bounded-split p b h = after-split Bounded p b h (bounded-stored p b h) bounded-begun
+
+body-length : (p : Parser) → Bounded p → length (body p) ≡ p .count
+body-length p h = length-take-le (p .count) (p .bytes) (omega (arith, h .counted, h .held))
+
+-- what a data byte adds to an open SysEx
+pub body-stored : (p : Parser) (b : ℕ) → Bounded p → body (stored p b) ≡ take 37 (body p ++ (b ∷ []))
+unfolding stored
+body-stored p b h = go (ltb (p .count) 37) refl
+  where
+    go : (t : Bool) → ltb (p .count) 37 ≡ t
+        → body (if t then record { status = p .status; count = p .count + 1; bytes = set (p .bytes) (p .count) b } else p) ≡ take 37 (body p ++ (b ∷ []))
+    go true e =
+        let k = ltb-true (p .count) 37 e in
+        let l = h .held in
+        let m = body-length p h in
+        rw (add-one (p .count)) (take-suc-set (p .bytes) (p .count) b (omega arith) ∙ sym (take-all 37 (body p ++ (b ∷ [])) (simp length-append (omega arith))))
+    go false e =
+        let k = ltb-false (p .count) 37 e in
+        let c = h .counted in
+        let m = body-length p h in
+        sym (take-append-le 37 (body p) (b ∷ []) (omega arith) ∙ take-all 37 (body p) (omega arith))
+
+-- a data byte in an open SysEx is stored, and the SysEx stays open
+split-open : (p : Parser) (b : ℕ) → inSysEx p ≡ true → ltb b 0x80 ≡ true → split p b .parser ≡ stored p b
+unfolding split dataByte
+split-open p b o d = rw (d, o)
+
+pub body-split : (p : Parser) (b : ℕ) → Bounded p → inSysEx p ≡ true → ltb b 0x80 ≡ true → body (split p b .parser) ≡ take 37 (body p ++ (b ∷ []))
+body-split p b h o d = ap body (split-open p b o d) ∙ body-stored p b h
+
+stays-open : (p : Parser) (b : ℕ) → inSysEx p ≡ true → inSysEx (stored p b) ≡ true
+unfolding stored
+stays-open p b o = either (λ q. inSysEx q ≡ true) (ltb (p .count) 37) o o
+
+-- the parser after a list of bytes
+unfoldable pub after : Parser → List ℕ → Parser
+after p [] = p
+after p (b ∷ l) = after (split p b .parser) l
+
+pub data DataBytes : List ℕ → Type 0 where
+  none : DataBytes []
+  more : {b : ℕ} {l : List ℕ} → ltb b 0x80 ≡ true → DataBytes l → DataBytes (b ∷ l)
+
+take-front : (n : ℕ) (xs ys : List ℕ) → take n (take n xs ++ ys) ≡ take n (xs ++ ys)
+take-front zero xs ys = refl
+take-front (suc n) [] ys = refl
+take-front (suc n) (x ∷ xs) ys = ap (λ (l : List ℕ). x ∷ l) (take-front n xs ys)
+
+-- an open SysEx after any number of data bytes
+pub body-after : (p : Parser) (l : List ℕ) → Bounded p → inSysEx p ≡ true → DataBytes l → body (after p l) ≡ take 37 (body p ++ l)
+unfolding after
+body-after p [] h o none = rw (append-nil (body p)) (sym (take-all 37 (body p) (omega (arith, body-length p h, h .counted))))
+body-after p (b ∷ l) h o (more d ds) =
+    ap (λ (q : Parser). body (after q l)) (split-open p b o d)
+    ∙ body-after (stored p b) l (bounded-stored p b h) (stays-open p b o) ds
+    ∙ ap (λ (m : List ℕ). take 37 (m ++ l)) (body-stored p b h)
+    ∙ take-front 37 (body p ++ (b ∷ [])) l
+    ∙ ap (take 37) (append-assoc (body p) (b ∷ []) l)

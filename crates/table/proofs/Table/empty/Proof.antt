@@ -1,0 +1,13 @@
+-- `table::Table::empty` meets its contract: sixteen zero entries are the places of no entry.
+-- Assumes nothing.
+use mathlib.Core.Path.{refl}
+use Rattle.table.specs.Table.{tableOf}
+use Rattle.table.proofs.Table.empty.Statement.{statement}
+use Rattle.table.proofs.Table.empty.Tie as tie
+
+returns : tie.Need-returns
+unfolding tableOf
+returns c = refl
+
+pub empty-spec : {M : Type 1} → statement M
+empty-spec = tie.close (tie.spec returns)

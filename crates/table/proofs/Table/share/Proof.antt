@@ -1,0 +1,87 @@
+-- `table::Table::share` meets its contract. Invariant: the share that the channel finds in the entries from i on, with the value
+-- before them, is the one that it finds in all of them.
+-- Assumes nothing.
+use Prim.Native.Nat.{_≤_, _-_}
+use mathlib.Core.Path.{_≡_, refl, ap, _∙_}
+use mathlib.Core.List.{List}
+use native.Mathlib.Omega.{arith}
+use borrow.Author.Needs.{needs}
+use lib.ListN.{length, take, drop}
+use Rattle.loops.proofs.Padded.{take-at-most}
+use Rattle.table.specs.declared.Entry.{Entry}
+use Rattle.table.specs.declared.Share.the-variants.{Units}
+use Rattle.table.specs.Table.{lookup, sharesFrom, shareOf}
+use Rattle.table.proofs.Sizes.{entries-16}
+use Rattle.table.proofs.Walk.{share-here, share-next, share-end}
+use Rattle.table.proofs.Table.share.Statement.{statement}
+use Rattle.table.proofs.Table.share.Tie as tie
+
+abbrev Inv-loop : tie.InvT-loop
+Inv-loop p c entries n before₀ i₀ before i = (i ≤ n) × (n ≤ 16) × (length entries ≡ 16) × (lookup c (sharesFrom p before (drop i (take n entries))) ≡ lookup c (sharesFrom p 0 (take n entries)))
+
+abbrev μ-loop : tie.MeasureT-loop
+μ-loop p c entries n before₀ i₀ before i = 16 - i
+
+at-most-requires : tie.Need-at-most-requires Inv-loop μ-loop
+at-most-requires c κs = search needs
+
+loop-holds : tie.Need-loop-holds Inv-loop μ-loop
+loop-holds c = let s = c .before .before in (omega arith, omega arith, entries-16 (s .args .self) (s .good .0), refl)
+
+mul-e : tie.Need-mul-e Inv-loop μ-loop
+mul-e c = search needs
+
+array-copy-out-e : tie.Need-array-copy-out-e Inv-loop μ-loop
+array-copy-out-e c = search needs
+
+less-requires : tie.Need-less-requires Inv-loop μ-loop
+less-requires c κs = search needs
+
+returns : tie.Need-returns Inv-loop μ-loop
+unfolding shareOf
+returns c =
+    let b = c .before .before .before .before .before .before in
+    let n = b .before .at-most-16 in
+    let a = b .before .before .before .args in
+    ap Units (c .less .ensures)
+    ∙ share-here (a .self .entries) (n .result) (b .loop .i) (a .p) (a .c) (b .loop .before) _ (omega arith) (omega arith) (b .loop .inv .3) (c .before .if1 .taken)
+    ∙ ap (λ (l : List Entry). lookup (a .c) (sharesFrom (a .p) 0 l)) (take-min (a .self .entries) (n .result) (a .self .count) 16 (b .loop .inv .2) (n .ensures))
+
+add-i : tie.Need-add-i Inv-loop μ-loop
+add-i c = search needs
+
+loop-less : tie.Need-loop-less Inv-loop μ-loop
+loop-less c = search needs
+
+loop-again : tie.Need-loop-again Inv-loop μ-loop
+loop-again c =
+    let b = c .before .before .before .before .before in
+    let n = b .before .at-most-16 in
+    let a = b .before .before .before .args in
+    (omega arith, omega arith, b .loop .inv .2, share-next (a .self .entries) (n .result) (b .loop .i) (a .p) (a .c) (b .loop .before) _ (omega arith) (omega arith) (b .loop .inv .3) (c .if1 .left))
+
+returns-2 : tie.Need-returns-2 Inv-loop μ-loop
+unfolding shareOf
+returns-2 c =
+    let b = c .before in
+    let n = b .before .at-most-16 in
+    let a = b .before .before .before .args in
+    share-end (a .self .entries) (n .result) (b .loop .i) (a .p) (a .c) (b .loop .before) _ (omega arith) (b .loop .inv .3)
+    ∙ ap (λ (l : List Entry). lookup (a .c) (sharesFrom (a .p) 0 l)) (take-min (a .self .entries) (n .result) (a .self .count) 16 (b .loop .inv .2) (n .ensures))
+
+pub share-spec : {M : Type 1} → statement M
+share-spec =
+    tie.close
+    (tie.spec
+    Inv-loop
+    μ-loop
+    at-most-requires
+    loop-holds
+    mul-e
+    array-copy-out-e
+    less-requires
+    returns
+    add-i
+    loop-less
+    loop-again
+    returns-2)

@@ -1,0 +1,69 @@
+-- `table::Table::start` meets its contract. Invariant: the array has the first i entries of the starting table, and zeros.
+-- Assumes nothing.
+use Prim.Native.Nat.{ℕ, _≤_, _-_}
+use mathlib.Core.Path.{_≡_, refl, sym, ap}
+use mathlib.Core.List.{List, map}
+use native.Mathlib.Omega.{arith}
+use borrow.Author.Needs.{needs}
+use lib.ListN.{length, take, length-set, List·getD-map}
+use Rattle.loops.specs.Passes.{padded}
+use Rattle.table.specs.declared.Entry.{Entry}
+use Rattle.table.specs.Table.{entry, tableOf, startOrder, startTable}
+use Rattle.table.proofs.Places.{places-turn}
+use Rattle.table.proofs.Table.start.Statement.{statement}
+use Rattle.table.proofs.Table.start.Tie as tie
+
+abbrev wanted : ℕ → List Entry
+wanted p = map (λ (c : ℕ). entry c p) startOrder
+
+abbrev Inv-loop : tie.InvT-loop
+Inv-loop p entries₀ i₀ entries i = (i ≤ 16) × (length entries ≡ 16) × (entries ≡ padded 16 (entry 0 0) (take i (wanted p)))
+
+abbrev μ-loop : tie.MeasureT-loop
+μ-loop p entries₀ i₀ entries i = 16 - i
+
+loop-holds : tie.Need-loop-holds Inv-loop μ-loop
+loop-holds c = (omega arith, refl, refl)
+
+array-read-t9 : tie.Need-array-read-t9 Inv-loop μ-loop
+array-read-t9 c = search needs
+
+mul-entries : tie.Need-mul-entries Inv-loop μ-loop
+mul-entries c = search needs
+
+array-set-from-entries : tie.Need-array-set-from-entries Inv-loop μ-loop
+array-set-from-entries c = search needs
+
+add-i : tie.Need-add-i Inv-loop μ-loop
+add-i c = search needs
+
+loop-less : tie.Need-loop-less Inv-loop μ-loop
+loop-less c = search needs
+
+loop-again : tie.Need-loop-again Inv-loop μ-loop
+loop-again c =
+    let l = c .before .loop in
+    let p = c .before .before .args .p in
+    (omega arith, simp length-set (omega arith)-turn (wanted p) (entry 0 p) (l .i) (l .entries) _ (omega arith) (omega arith) (l .inv .2) (sym (List·getD-map (λ (c : ℕ). entry c p) startOrder (l .i) 0)))
+
+returns : tie.Need-returns Inv-loop μ-loop
+unfolding startTable tableOf
+returns c =
+    let l = c .before .loop in
+    let e : l .i ≡ 16 = omega arith in
+    ap (λ (es : List Entry). record { count = 16; entries = es }) (rw e at (l .inv .2))
+
+pub start-spec : {M : Type 1} → statement M
+start-spec =
+    tie.close
+    (tie.spec
+    Inv-loop
+    μ-loop
+    loop-holds
+    array-read-t9
+    mul-entries
+    array-set-from-entries
+    add-i
+    loop-less
+    loop-again
+    returns)
