@@ -2,7 +2,7 @@
 // A list and no counter, so that no history is too long for it. By value, for every value. Assumes nothing.
 ghost use mathlib.Core.Path.{_≡_};
 ghost use mathlib.Core.List.{[]};
-ghost use Rattle.ages.specs.Ages.{agesOf, unmarked, without, pushed, newest};
+ghost use Rattle.ages.specs.Ages.{agesOf, without, pushed, newest};
 
 // The first `count` numbers are the sounding generators, the oldest first; the others are 0.
 #[repr(C)]
@@ -33,7 +33,7 @@ impl Ages {
         let mut i: usize = 0;
         while i < n {
             let g = order[i];
-            let stays = unmarked(marks, g);
+            let stays = loops::element(marks, g) == 0;
             // A number that does not stay leaves a 0, which the next one that stays replaces.
             let at = m as usize;
             kept[at] = loops::if_else(stays, g, 0);
@@ -72,14 +72,4 @@ impl Ages {
         }
         next
     }
-}
-
-fn unmarked(marks: [u8; 64], g: u8) -> bool
-    ensures { λ r. ⌜ r ≡ unmarked marks g ⌝ }
-{
-    let i = g as usize;
-    if i < 64 {
-        return marks[i] == 0;
-    }
-    true
 }

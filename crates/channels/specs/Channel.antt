@@ -178,21 +178,25 @@ dataEntry c v =
 unfoldable pub reset : Channel → Channel
 reset c = withBend (withRpn (withHold (withExpression (withModulation c 0) 127) 0) 127 127) 64 0
 
--- "Program, bend and controllers 1, 7, 10, 11, 64, 100, 101 are stored"; "98 and 99 set both RPN numbers to 127"; every other controller, 38 among
--- them, changes nothing here, and so does 121 with another value than 0
-unfoldable pub controlled : Channel → ℕ → ℕ → Channel
-controlled c n v =
+-- "Program, bend and controllers 1, 7, 10, 11, 64, 100, 101 are stored"; every other controller, 38 among them, changes nothing
+unfoldable pub stored : Channel → ℕ → ℕ → Channel
+stored c n v =
     if eqb n 1 then withModulation c v else
-    if eqb n 6 then dataEntry c v else
     if eqb n 7 then withVolume c v else
     if eqb n 10 then withPan c v else
     if eqb n 11 then withExpression c v else
     if eqb n 64 then withHold c v else
-    if eqb n 98 || eqb n 99 then withRpn c 127 127 else
     if eqb n 100 then withRpn c (c .«rpn_msb») v else
     if eqb n 101 then withRpn c v (c .«rpn_lsb») else
-    if eqb n 121 && eqb v 0 then reset c else
     c
+
+-- controller n with value v; "98 and 99 set both RPN numbers to 127"; 121 with another value than 0 changes nothing
+unfoldable pub controlled : Channel → ℕ → ℕ → Channel
+controlled c n v =
+    if eqb n 6 then dataEntry c v else
+    if eqb n 98 || eqb n 99 then withRpn c 127 127 else
+    if eqb n 121 && eqb v 0 then reset c else
+    stored c n v
 
 -- the sixteen channels; the wire carries the channel minus 1, which is its place here
 abbrev pub freshChannels : List Channel

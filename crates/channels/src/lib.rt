@@ -1,7 +1,7 @@
 // What a channel remembers: its eleven numbers and the messages that change them (document 01, "The device record" and "Other messages").
 // By value, for every value. Masks are no matter here: a masked channel's controllers are stored like any other's. Assumes nothing.
 ghost use mathlib.Core.Path.{_≡_};
-ghost use Rattle.channels.specs.Channel.{fresh, withProgram, withBend, dataEntry, reset, controlled, freshChannels, channelAt, replaced};
+ghost use Rattle.channels.specs.Channel.{fresh, withProgram, withBend, dataEntry, reset, stored, controlled, freshChannels, channelAt, replaced};
 
 #[repr(C)]
 pub struct Channel {
@@ -108,18 +108,15 @@ impl Channel {
         c
     }
 
-    // Controller n with value v.
-    pub fn control(self, n: u8, v: u8) -> Self
-        ensures { λ r. ⌜ r ≡ controlled self n v ⌝ }
+    // The controllers that are stored as they come; every other one, 38 and 121 among them, changes nothing here.
+    fn store(self, n: u8, v: u8) -> Self
+        ensures { λ r. ⌜ r ≡ stored self n v ⌝ }
     {
         let mut c = self;
         match n {
             1 => {
                 c.modulation = v;
                 return c;
-            }
-            6 => {
-                return self.data_entry(v);
             }
             7 => {
                 c.volume = v;
@@ -137,11 +134,6 @@ impl Channel {
                 c.hold = v;
                 return c;
             }
-            98 | 99 => {
-                c.rpn_msb = Channel::RPN;
-                c.rpn_lsb = Channel::RPN;
-                return c;
-            }
             100 => {
                 c.rpn_lsb = v;
                 return c;
@@ -150,15 +142,28 @@ impl Channel {
                 c.rpn_msb = v;
                 return c;
             }
-            121 => {
-                if v == 0 {
-                    return self.reset();
-                }
-                return c;
-            }
             _ => {}
         }
         c
+    }
+
+    // Controller n with value v: a non-registered parameter number, 98 or 99, takes the registered one out of use.
+    pub fn control(self, n: u8, v: u8) -> Self
+        ensures { λ r. ⌜ r ≡ controlled self n v ⌝ }
+    {
+        let mut c = self;
+        if n == 6 {
+            return self.data_entry(v);
+        }
+        if (n == 98) | (n == 99) {
+            c.rpn_msb = Channel::RPN;
+            c.rpn_lsb = Channel::RPN;
+            return c;
+        }
+        if (n == 121) & (v == 0) {
+            return self.reset();
+        }
+        self.store(n, v)
     }
 }
 
@@ -185,9 +190,9 @@ pub fn replace(channels: [Channel; 16], at: u8, c: Channel) -> [Channel; 16]
     ensures { λ r. ⌜ r ≡ replaced channels at c ⌝ }
 {
     let mut out = channels;
-    let i = at as usize;
-    if i < 16 {
-        out[i] = c;
+    let place = at as usize;
+    if place < 16 {
+        out[place] = c;
         return out;
     }
     out

@@ -9,7 +9,7 @@ use Prim.Native.Nat.{ℕ, zero, suc, _+_, _≤_, _<_}
 use native.Mathlib.Numerals.{add-one}
 use native.Mathlib.Omega.{arith}
 use lib.ListN.{length, take, drop, getD, drop-of-length-le, length-append}
-use lib.Seq.{drop-cons, take-suc}
+use lib.Seq.{drop-cons, take-suc, getD-take, length-take-le}
 use Rattle.loops.specs.Cases.{if_then_else_, bit}
 use Rattle.loops.specs.Passes.{filterBy, firstOf, count}
 
@@ -80,3 +80,20 @@ pub filter-same : {A : Type 0} (p q : A → Bool) (l : List A) → ((x : A) → 
 unfolding filterBy
 filter-same p q [] h = refl
 filter-same p q (x ∷ l) h = rw (h x, filter-same p q l h)
+
+-- the same search among the first n elements of an array
+module _ {A : Type 0} (p : A → Bool) (d : A) (l : List A) (n : ℕ) (k : n ≤ length l) where
+  part : length (take n l) ≡ n
+  part = length-take-le n l k
+
+  pub part-yes : (i : ℕ) (r : Option A) → i < n → firstOf p (drop i (take n l)) ≡ r → p (getD l i d) ≡ true → some (getD l i d) ≡ r
+  part-yes i r h e t =
+      let s = part in
+      let g = getD-take n l i d h in
+      rw g at (first-yes p d (take n l) i r (omega arith) e (rw g t))
+
+  pub part-no : (i : ℕ) (r : Option A) → i < n → firstOf p (drop i (take n l)) ≡ r → p (getD l i d) ≡ false → firstOf p (drop (i + 1) (take n l)) ≡ r
+  part-no i r h e t = let s = part in first-no p d (take n l) i r (omega arith) e (rw (getD-take n l i d h) t)
+
+  pub part-end : (i : ℕ) (r : Option A) → n ≤ i → firstOf p (drop i (take n l)) ≡ r → none ≡ r
+  part-end i r h e = let s = part in first-end p (take n l) i r (omega arith) e

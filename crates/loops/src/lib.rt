@@ -2,6 +2,7 @@
 // and the small choices that loop bodies make without a branch. Assumes nothing.
 ghost use mathlib.Core.Path.{_≡_};
 ghost use Prim.Native.Nat.{_≤_};
+ghost use lib.ListN.{getD};
 ghost use Rattle.loops.specs.Cases.{if_then_else_, bit, atMost};
 
 pub fn if_else(c: bool, a: u8, b: u8) -> u8
@@ -22,4 +23,15 @@ pub fn at_most(m: u8, n: u8) -> u8
     ensures { λ r. ⌜ (r ≡ atMost m n) × (r ≤ m) ⌝ }
 {
     if n < m { n } else { m }
+}
+
+// The element of a number i, 0 where there is none.
+pub fn element(numbers: [u8; 64], i: u8) -> u8
+    ensures { λ r. ⌜ r ≡ getD numbers i 0 ⌝ }
+{
+    let at = i as usize;
+    if at < 64 {
+        return numbers[at];
+    }
+    0
 }

@@ -9,7 +9,7 @@ use native.Mathlib.Numerals.{add-one}
 use native.Mathlib.Omega.{arith}
 use borrow.Author.Tests.{ltb-true, ltb-false}
 use lib.Dec.{leb, ltb, eqb}
-use lib.ListN.{length, take, set, replicate, length-append, length-set}
+use lib.ListN.{length, take, set, length-append, length-set}
 use lib.Seq.{take-all, take-suc-set, take-append-le, length-take-le}
 use Rattle.loops.specs.Cases.{if_then_else_}
 use Rattle.splitter.specs.Split.{begun, stored, inSysEx, body, oneDataByte, takesData, completed, dataByte, opened, statusByte, split}

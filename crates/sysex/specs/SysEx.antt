@@ -57,12 +57,15 @@ abbrev pub judgedBy : List Entry → Option ℕ → Judged
 judgedBy l none = record { verdict = Accepted; table = tableOf l }
 judgedBy l (some n) = refused n
 
+abbrev pub judgedPairs : List Entry → Judged
+judgedPairs l = judgedBy l (faulty [] 0 l)
+
 -- a MIP message by its bytes after 0B 01; "Order: .. 5, then 6, then pair by pair"
 unfoldable pub judged : List ℕ → Judged
 judged l =
     if ltb 32 (length l) then refused 5 else
     if eqb (length l) 0 || eqb (length l % 2) 1 then refused 6 else
-    judgedBy (pairs l) (faulty [] 0 (pairs l))
+    judgedPairs (pairs l)
 
 -- the number of document 01 for a verdict, where it has one
 abbrev pub numberOf : Verdict → Option ℕ

@@ -1,10 +1,10 @@
 // SysEx: what an ended one is to us, and the judgement of a MIP message (document 01, "MIP table, masks, shares"; numbers 5 to 9).
 // Both take the parser that the F7 found, which holds the SysEx's data bytes, for every value of it. Assumes nothing.
 ghost use mathlib.Core.Path.{_≡_};
-ghost use Prim.Native.Nat.{_≤_, _-_};
+ghost use Prim.Native.Nat.{_≤_};
 ghost use lib.ListN.{drop};
 ghost use Rattle.splitter.specs.Split.{body};
-ghost use Rattle.sysex.specs.SysEx.{kindOf, judged};
+ghost use Rattle.sysex.specs.SysEx.{kindOf, pairs, refused, judgedPairs, judged};
 use splitter::Parser;
 use table::Entry;
 use table::Table;
@@ -34,7 +34,7 @@ pub struct Judged {
 }
 
 // What the SysEx of parser p is to the device with this own ID.
-pub fn kind(p: Parser, id: u8) -> Kind
+pub fn kind_of(p: Parser, id: u8) -> Kind
     ensures { λ r. ⌜ r ≡ kindOf id (body p) ⌝ }
 {
     let b = p.bytes;
@@ -48,29 +48,26 @@ pub fn kind(p: Parser, id: u8) -> Kind
     Kind::Other
 }
 
-fn refuse(number: u8) -> Judged {
+fn refuse(number: u8) -> Judged
+    ensures { λ r. ⌜ r ≡ refused number ⌝ }
+{
     Judged {
         verdict: Verdict::Refused(number),
         table: Table::empty(),
     }
 }
 
-// The MIP message of parser p, over the whole of it: its pairs start after the four bytes of the head.
-pub fn judge(p: Parser) -> Judged
-    ensures { λ r. ⌜ r ≡ judged (drop 4 (body p)) ⌝ }
+// Numbers 7 to 9, pair by pair: the pairs of parser p start after the four bytes of the head. A last byte without a partner is not looked at.
+fn judge_pairs(p: Parser) -> Judged
+    requires { ⌜ p .count ≤ 36 ⌝ }
+    ensures { λ r. ⌜ r ≡ judgedPairs (pairs (drop 4 (body p))) ⌝ }
 {
-    let n = p.count;
-    if 36 < n {
-        return refuse(5);
-    }
-    if (n <= 4) | (n % 2 == 1) {
-        return refuse(6);
-    }
     let bytes = p.bytes;
+    let n = p.count as usize;
     let mut t = Table::empty();
     let mut before: u8 = 0;
     let mut i: usize = 4;
-    while i < n as usize {
+    while i + 1 < n {
         let m = bytes[i];
         let v = bytes[i + 1];
         if 15 < m {
@@ -82,11 +79,11 @@ pub fn judge(p: Parser) -> Judged
         if v < before {
             return refuse(9);
         }
-        let e = Entry {
+        let next = t.push(Entry {
             channel: m + 1,
             value: v,
-        };
-        t = t.push(e);
+        });
+        t = next;
         before = v;
         i += 2;
     }
@@ -94,4 +91,18 @@ pub fn judge(p: Parser) -> Judged
         verdict: Verdict::Accepted,
         table: t,
     }
+}
+
+// The MIP message of parser p, over the whole of it.
+pub fn judge(p: Parser) -> Judged
+    ensures { λ r. ⌜ r ≡ judged (drop 4 (body p)) ⌝ }
+{
+    let n = p.count;
+    if 36 < n {
+        return refuse(5);
+    }
+    if (n <= 4) | (n % 2 == 1) {
+        return refuse(6);
+    }
+    judge_pairs(p)
 }

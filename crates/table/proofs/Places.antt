@@ -34,7 +34,7 @@ push-end t e i out k h q p =
     let n : length (take (t .count) (t .entries)) ≡ t .count = rw length-take (omega arith) in
     let m : t .count + 1 ≡ length (take (t .count) (t .entries) ++ (e ∷ [])) = simp length-append (omega arith) in
     let r : set (padded 16 (entry 0 0) (take (t .count) (t .entries))) (t .count) e ≡ padded 16 (entry 0 0) (take (t .count) (t .entries) ++ (e ∷ [])) =
-        rw n at (padded-push (entry 0 0) 16 (take (t .count) (t .entries)) e (omega arith)) in
+    rw n at (padded-push (entry 0 0) 16 (take (t .count) (t .entries)) e (omega arith)) in
     rw (lt-leb 16 (t .count) h, p, q, r, ← m)
 
 -- one entry more

@@ -9,11 +9,17 @@ use native.Mathlib.Omega.{arith}
 use lib.Dec.{leb, eqb}
 use lib.ListN.{length, take, drop, getD, length-take, drop-of-length-le}
 use lib.Seq.{drop-cons, getD-take}
-use Rattle.loops.specs.Cases.{if_then_else_}
+use Rattle.loops.specs.Cases.{if_then_else_, atMost}
+use Rattle.loops.proofs.Padded.{take-at-most}
 use Rattle.table.specs.declared.Entry.{Entry}
 use Rattle.table.specs.declared.Share.{Share}
 use Rattle.table.specs.declared.Share.the-variants.{Masked, Units}
-use Rattle.table.specs.Table.{entry, listed, lookup, sharesFrom}
+use Rattle.table.specs.declared.Table.{Table}
+use Rattle.table.specs.Table.{entry, entriesOf, listed, lookup, sharesFrom}
+
+-- going as far as the count, or to 16 where it is above, is going over all entries
+pub all-entries : (t : Table) (n : ℕ) → length (t .entries) ≡ 16 → n ≡ atMost 16 (t .count) → take n (t .entries) ≡ entriesOf t
+all-entries t n e q = ap (λ (m : ℕ). take m (t .entries)) q ∙ take-at-most 16 (t .count) (t .entries) e
 
 -- the first entry is the channel's and unmasked, with v before it; it is not
 module _ (p c v : ℕ) (x : Entry) (l : List Entry) where

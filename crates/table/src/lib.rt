@@ -46,6 +46,12 @@ pub enum ShareAnswer {
     NotAChannel,
 }
 
+// What stands after a table's entries.
+const BLANK: Entry = Entry {
+    channel: 0,
+    value: 0,
+};
+
 // The channels by falling priority at the start.
 const START_ORDER: [u8; 16] = [10, 1, 2, 3, 4, 5, 6, 7, 8, 9, 11, 12, 13, 14, 15, 16];
 
@@ -53,13 +59,9 @@ impl Table {
     pub fn empty() -> Self
         ensures { λ r. ⌜ r ≡ tableOf [] ⌝ }
     {
-        let none = Entry {
-            channel: 0,
-            value: 0,
-        };
         Table {
             count: 0,
-            entries: [none; 16],
+            entries: [BLANK; 16],
         }
     }
 
@@ -67,11 +69,7 @@ impl Table {
     pub fn start(p: u8) -> Self
         ensures { λ r. ⌜ r ≡ startTable p ⌝ }
     {
-        let none = Entry {
-            channel: 0,
-            value: 0,
-        };
-        let mut entries = [none; 16];
+        let mut entries = [BLANK; 16];
         let mut i: usize = 0;
         while i < 16 {
             entries[i] = Entry {
@@ -95,11 +93,7 @@ impl Table {
         }
         let at = self.count as usize;
         let old = self.entries;
-        let none = Entry {
-            channel: 0,
-            value: 0,
-        };
-        let mut entries = [none; 16];
+        let mut entries = [BLANK; 16];
         let mut i: usize = 0;
         while i < at {
             entries[i] = old[i];

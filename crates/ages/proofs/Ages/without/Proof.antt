@@ -1,9 +1,10 @@
 -- `ages::Ages::without` meets its contract. Invariant: what is kept are the unmarked ones among the first i, in an array that is 0 behind them, and m is
 -- their number. The measure is what is left of the order.
 -- Assumes nothing.
-use Prim.Native.Nat.{_≤_, _<_, _-_}
-use mathlib.Core.Path.{_≡_, refl, sym, _∙_}
+use Prim.Native.Nat.{ℕ, _≤_, _<_, _-_}
+use mathlib.Core.Path.{_≡_, refl, sym, ap, _∙_}
 use native.Mathlib.Omega.{arith}
+use lib.Dec.{eqb}
 use lib.ListN.{length}
 use borrow.Author.Needs.{needs}
 use Rattle.loops.specs.Passes.{filterBy, padded}
@@ -41,8 +42,8 @@ loop-holds c =
 array-read-g : tie.Need-array-read-g Inv-loop μ-loop
 array-read-g c = search needs
 
-unmarked-requires : tie.Need-unmarked-requires Inv-loop μ-loop
-unmarked-requires c κs = search needs
+element-requires : tie.Need-element-requires Inv-loop μ-loop
+element-requires c κs = search needs
 
 cast-at : tie.Need-cast-at Inv-loop μ-loop
 cast-at c = search needs
@@ -67,14 +68,15 @@ loop-less c = search needs
 
 loop-again : tie.Need-loop-again Inv-loop μ-loop
 loop-again c =
-    let u = c .before .before .unmarked in
+    let u = c .before .before .element in
     let b = c .before .before .before .before in
     let l = b .loop in
     let a = b .before .before .before .args in
     let h : l .i < length (a .self .generator) = omega arith in
     let k : l .i < 64 = omega arith in
-    let q = kept-count (unmarked (a .marks)) 0 64 (a .self .generator) (l .i) (l .m) (l .kept) (u .result) h k (sym (u .ensures)) (l .inv .4) (l .inv .5) in
-    let r = kept-next (unmarked (a .marks)) 0 64 (a .self .generator) (l .i) (l .m) (l .kept) (u .result) h k (sym (u .ensures)) (l .inv .4) (l .inv .5) in
+    let t = sym (ap (λ (n : ℕ). eqb n 0) (u .ensures)) in
+    let q = kept-count (unmarked (a .marks)) 0 64 (a .self .generator) (l .i) (l .m) (l .kept) (eqb (u .result) 0) h k t (l .inv .4) (l .inv .5) in
+    let r = kept-next (unmarked (a .marks)) 0 64 (a .self .generator) (l .i) (l .m) (l .kept) (eqb (u .result) 0) h k t (l .inv .4) (l .inv .5) in
     (omega arith, l .inv .1, l .inv .2, omega (arith, c .one .ensures .1), rw (c .one .ensures .0) q, rw (c .before .if-else .ensures) r)
 
 returns : tie.Need-returns Inv-loop μ-loop
@@ -96,7 +98,7 @@ without-spec =
     cast-n
     loop-holds
     array-read-g
-    unmarked-requires
+    element-requires
     cast-at
     if-else-requires
     array-write-kept

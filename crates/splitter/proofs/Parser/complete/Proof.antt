@@ -33,7 +33,12 @@ array-read-t12 c = search needs
 
 returns-3 : tie.Need-returns-3
 unfolding completed
-returns-3 c = simp (c .before .before .before .begin .ensures, lt-leb _ _ (c .before .before .before .before .if1 .left), sym (c .before .before .one-data-byte .ensures) ∙ c .before .if2 .left)
+returns-3 c =
+    simp (
+      c .before .before .before .begin .ensures,
+      lt-leb _ _ (c .before .before .before .before .if1 .left),
+      sym (c .before .before .one-data-byte .ensures) ∙ c .before .if2 .left,
+    )
 
 pub complete-spec : {M : Type 1} → statement M
 complete-spec =

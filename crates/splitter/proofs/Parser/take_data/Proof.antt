@@ -29,14 +29,30 @@ complete-requires c κs = search needs
 
 returns-3 : tie.Need-returns-3
 unfolding dataByte
-returns-3 c = simp (c .complete .ensures, ne-eqb _ _ (c .before .before .before .before .before .before .if1 .left), sym (c .before .before .before .before .before .takes-data .ensures), c .before .before .before .before .if2 .left, sym (c .before .before .before .one-data-byte .ensures), c .before .if3 .taken)
+returns-3 c =
+    simp (
+      c .complete .ensures,
+      ne-eqb _ _ (c .before .before .before .before .before .before .if1 .left),
+      sym (c .before .before .before .before .before .takes-data .ensures),
+      c .before .before .before .before .if2 .left,
+      sym (c .before .before .before .one-data-byte .ensures),
+      c .before .if3 .taken,
+    )
 
 store-requires-2 : tie.Need-store-requires-2
 store-requires-2 c κs = search needs
 
 returns-4 : tie.Need-returns-4
 unfolding dataByte
-returns-4 c = simp (c .store2 .ensures, ne-eqb _ _ (c .before .before .before .before .before .before .if1 .left), sym (c .before .before .before .before .before .takes-data .ensures), c .before .before .before .before .if2 .left, sym (c .before .before .before .one-data-byte .ensures), c .before .if3 .left)
+returns-4 c =
+    simp (
+      c .store2 .ensures,
+      ne-eqb _ _ (c .before .before .before .before .before .before .if1 .left),
+      sym (c .before .before .before .before .before .takes-data .ensures),
+      c .before .before .before .before .if2 .left,
+      sym (c .before .before .before .one-data-byte .ensures),
+      c .before .if3 .left,
+    )
 
 pub take-data-spec : {M : Type 1} → statement M
 take-data-spec =

@@ -6,10 +6,9 @@ use native.Mathlib.Omega.{arith}
 use borrow.Author.Needs.{needs}
 use borrow.Author.Tests.{eq-eqb, ne-eqb}
 use lib.ListN.{length, take, drop}
-use Rattle.loops.proofs.Padded.{take-at-most}
 use Rattle.table.specs.Table.{listed}
 use Rattle.table.proofs.Sizes.{entries-16}
-use Rattle.table.proofs.Walk.{listed-here, listed-next, listed-end}
+use Rattle.table.proofs.Walk.{listed-here, listed-next, listed-end, all-entries}
 use Rattle.table.proofs.Table.lists.Statement.{statement}
 use Rattle.table.proofs.Table.lists.Tie as tie
 
@@ -21,6 +20,9 @@ abbrev μ-loop : tie.MeasureT-loop
 
 at-most-requires : tie.Need-at-most-requires Inv-loop μ-loop
 at-most-requires c κs = search needs
+
+cast-n : tie.Need-cast-n Inv-loop μ-loop
+cast-n c = search needs
 
 loop-holds : tie.Need-loop-holds Inv-loop μ-loop
 loop-holds c = let s = c .before .before in (omega arith, omega arith, entries-16 (s .args .self) (s .good .0), refl)
@@ -34,10 +36,10 @@ array-copy-out-e c = search needs
 returns : tie.Need-returns Inv-loop μ-loop
 returns c =
     let b = c .before .before .before .before in
-    let n = b .before .at-most-16 in
+    let n = b .before .at-most in
     let a = b .before .before .before .args in
     listed-here (a .self .entries) (n .result) (b .loop .i) (a .c) _ (omega arith) (omega arith) (b .loop .inv .3) (eq-eqb _ _ (c .if1 .taken))
-    ∙ ap (listed (a .c)) (take-min (a .self .entries) (n .result) (a .self .count) 16 (b .loop .inv .2) (n .ensures))
+    ∙ ap (listed (a .c)) (all-entries (a .self) (n .result) (b .loop .inv .2) (n .ensures .0))
 
 add-i : tie.Need-add-i Inv-loop μ-loop
 add-i c = search needs
@@ -48,17 +50,17 @@ loop-less c = search needs
 loop-again : tie.Need-loop-again Inv-loop μ-loop
 loop-again c =
     let b = c .before .before .before .before in
-    let n = b .before .at-most-16 in
+    let n = b .before .at-most in
     let a = b .before .before .before .args in
     (omega arith, omega arith, b .loop .inv .2, listed-next (a .self .entries) (n .result) (b .loop .i) (a .c) _ (omega arith) (omega arith) (b .loop .inv .3) (ne-eqb _ _ (c .if1 .left)))
 
 returns-2 : tie.Need-returns-2 Inv-loop μ-loop
 returns-2 c =
     let b = c .before in
-    let n = b .before .at-most-16 in
+    let n = b .before .at-most in
     let a = b .before .before .before .args in
     listed-end (a .self .entries) (n .result) (b .loop .i) (a .c) _ (omega arith) (b .loop .inv .3)
-    ∙ ap (listed (a .c)) (take-min (a .self .entries) (n .result) (a .self .count) 16 (b .loop .inv .2) (n .ensures))
+    ∙ ap (listed (a .c)) (all-entries (a .self) (n .result) (b .loop .inv .2) (n .ensures .0))
 
 pub lists-spec : {M : Type 1} → statement M
 lists-spec =
@@ -67,6 +69,7 @@ lists-spec =
     Inv-loop
     μ-loop
     at-most-requires
+    cast-n
     loop-holds
     mul-e
     array-copy-out-e

@@ -27,6 +27,7 @@ cast-at : tie.Need-cast-at Inv-loop μ-loop
 cast-at c = search needs
 
 loop-holds : tie.Need-loop-holds Inv-loop μ-loop
+unfolding padded
 loop-holds c =
     let s = c .before .before .before .before in
     (omega arith, omega arith, entries-16 (s .args .self) (s .good .0), refl, refl)
@@ -54,7 +55,7 @@ loop-again c =
     let b = c .before .before in
     let l = b .loop in
     let s = b .before .before .before .before .before in
-    (omega arith, omega arith, l .inv .2, simp length-set (omega arith)-turn (s .args .self .entries) (entry 0 0) (l .i) (l .entries) _ (omega arith) (omega arith) (l .inv .4) refl)
+    (omega arith, omega arith, l .inv .2, simp length-set (omega arith), places-turn (s .args .self .entries) (entry 0 0) (l .i) (l .entries) _ (omega arith) (omega arith) (l .inv .4) refl)
 
 mul-entries-3 : tie.Need-mul-entries-3 Inv-loop μ-loop
 mul-entries-3 c = search needs

@@ -7,12 +7,11 @@ use mathlib.Core.List.{List}
 use native.Mathlib.Omega.{arith}
 use borrow.Author.Needs.{needs}
 use lib.ListN.{length, take, drop}
-use Rattle.loops.proofs.Padded.{take-at-most}
 use Rattle.table.specs.declared.Entry.{Entry}
 use Rattle.table.specs.declared.Share.the-variants.{Units}
 use Rattle.table.specs.Table.{lookup, sharesFrom, shareOf}
 use Rattle.table.proofs.Sizes.{entries-16}
-use Rattle.table.proofs.Walk.{share-here, share-next, share-end}
+use Rattle.table.proofs.Walk.{share-here, share-next, share-end, all-entries}
 use Rattle.table.proofs.Table.share.Statement.{statement}
 use Rattle.table.proofs.Table.share.Tie as tie
 
@@ -24,6 +23,9 @@ abbrev μ-loop : tie.MeasureT-loop
 
 at-most-requires : tie.Need-at-most-requires Inv-loop μ-loop
 at-most-requires c κs = search needs
+
+cast-n : tie.Need-cast-n Inv-loop μ-loop
+cast-n c = search needs
 
 loop-holds : tie.Need-loop-holds Inv-loop μ-loop
 loop-holds c = let s = c .before .before in (omega arith, omega arith, entries-16 (s .args .self) (s .good .0), refl)
@@ -41,11 +43,11 @@ returns : tie.Need-returns Inv-loop μ-loop
 unfolding shareOf
 returns c =
     let b = c .before .before .before .before .before .before in
-    let n = b .before .at-most-16 in
+    let n = b .before .at-most in
     let a = b .before .before .before .args in
     ap Units (c .less .ensures)
     ∙ share-here (a .self .entries) (n .result) (b .loop .i) (a .p) (a .c) (b .loop .before) _ (omega arith) (omega arith) (b .loop .inv .3) (c .before .if1 .taken)
-    ∙ ap (λ (l : List Entry). lookup (a .c) (sharesFrom (a .p) 0 l)) (take-min (a .self .entries) (n .result) (a .self .count) 16 (b .loop .inv .2) (n .ensures))
+    ∙ ap (λ (l : List Entry). lookup (a .c) (sharesFrom (a .p) 0 l)) (all-entries (a .self) (n .result) (b .loop .inv .2) (n .ensures .0))
 
 add-i : tie.Need-add-i Inv-loop μ-loop
 add-i c = search needs
@@ -56,7 +58,7 @@ loop-less c = search needs
 loop-again : tie.Need-loop-again Inv-loop μ-loop
 loop-again c =
     let b = c .before .before .before .before .before in
-    let n = b .before .at-most-16 in
+    let n = b .before .at-most in
     let a = b .before .before .before .args in
     (omega arith, omega arith, b .loop .inv .2, share-next (a .self .entries) (n .result) (b .loop .i) (a .p) (a .c) (b .loop .before) _ (omega arith) (omega arith) (b .loop .inv .3) (c .if1 .left))
 
@@ -64,10 +66,10 @@ returns-2 : tie.Need-returns-2 Inv-loop μ-loop
 unfolding shareOf
 returns-2 c =
     let b = c .before in
-    let n = b .before .at-most-16 in
+    let n = b .before .at-most in
     let a = b .before .before .before .args in
     share-end (a .self .entries) (n .result) (b .loop .i) (a .p) (a .c) (b .loop .before) _ (omega arith) (b .loop .inv .3)
-    ∙ ap (λ (l : List Entry). lookup (a .c) (sharesFrom (a .p) 0 l)) (take-min (a .self .entries) (n .result) (a .self .count) 16 (b .loop .inv .2) (n .ensures))
+    ∙ ap (λ (l : List Entry). lookup (a .c) (sharesFrom (a .p) 0 l)) (all-entries (a .self) (n .result) (b .loop .inv .2) (n .ensures .0))
 
 pub share-spec : {M : Type 1} → statement M
 share-spec =
@@ -76,6 +78,7 @@ share-spec =
     Inv-loop
     μ-loop
     at-most-requires
+    cast-n
     loop-holds
     mul-e
     array-copy-out-e

@@ -23,6 +23,7 @@ abbrev μ-loop : tie.MeasureT-loop
 μ-loop p entries₀ i₀ entries i = 16 - i
 
 loop-holds : tie.Need-loop-holds Inv-loop μ-loop
+unfolding padded
 loop-holds c = (omega arith, refl, refl)
 
 array-read-t9 : tie.Need-array-read-t9 Inv-loop μ-loop
@@ -44,10 +45,10 @@ loop-again : tie.Need-loop-again Inv-loop μ-loop
 loop-again c =
     let l = c .before .loop in
     let p = c .before .before .args .p in
-    (omega arith, simp length-set (omega arith)-turn (wanted p) (entry 0 p) (l .i) (l .entries) _ (omega arith) (omega arith) (l .inv .2) (sym (List·getD-map (λ (c : ℕ). entry c p) startOrder (l .i) 0)))
+    (omega arith, simp length-set (omega arith), places-turn (wanted p) (entry 0 p) (l .i) (l .entries) _ (omega arith) (omega arith) (l .inv .2) (sym (List·getD-map (λ (c : ℕ). entry c p) startOrder (l .i) 0)))
 
 returns : tie.Need-returns Inv-loop μ-loop
-unfolding startTable tableOf
+unfolding startTable tableOf padded
 returns c =
     let l = c .before .loop in
     let e : l .i ≡ 16 = omega arith in

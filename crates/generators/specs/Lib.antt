@@ -1,0 +1,3 @@
+-- What the generators do.
+pub mod Generators
+pub mod Assigned

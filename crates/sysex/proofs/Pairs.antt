@@ -1,0 +1,80 @@
+-- The loop over the pairs of a MIP message: at turn i the judgement of the table so far and the pairs from i on is that of all pairs.
+-- Assumes nothing.
+use mathlib.Core.Path.{_≡_, refl, sym, ap, _∙_}
+use mathlib.Core.Bool.{Bool, true, false}
+use mathlib.Core.List.{List, [], _∷_, _++_, append-assoc, append-nil}
+use Prim.Native.Nat.{ℕ, suc, _+_, _≤_, _<_}
+use native.Mathlib.Numerals.{add-one}
+use native.Mathlib.Omega.{arith}
+use lib.Dec.{ltb}
+use lib.ListN.{length, take, drop, getD, length-append, length-take, length-drop}
+use lib.Seq.{drop-cons, getD-take}
+use Rattle.loops.specs.Passes.{padded}
+use Rattle.table.specs.declared.Entry.{Entry}
+use Rattle.table.specs.declared.Table.{Table}
+use Rattle.table.specs.Table.{entry, entriesOf, tableOf, listed, pushed}
+use Rattle.table.proofs.Places.{entries-of-table, pushed-table}
+use Rattle.sysex.specs.declared.Judged.{Judged}
+use Rattle.sysex.specs.declared.Verdict.the-variants.{Accepted}
+use Rattle.sysex.specs.SysEx.{pairs, faulty, refused, judgedBy, judgedPairs}
+
+-- the pair at i, and those after it
+module _ (l : List ℕ) (n i : ℕ) where
+  pub pairs-next : i + 1 < n → n ≤ length l
+      → pairs (drop i (take n l)) ≡ entry (getD l i 0 + 1) (getD l (i + 1) 0) ∷ pairs (drop (i + 2) (take n l))
+  unfolding pairs
+  pairs-next h k =
+      let s : suc i < length (take n l) = rw length-take (omega arith) in
+      let t : i + 2 ≡ suc (suc i) = omega arith in
+      rw (drop-cons (take n l) i 0 (omega arith), drop-cons (take n l) (suc i) 0 s, t, add-one i, getD-take n l i 0 (omega arith), getD-take n l (suc i) 0 (omega arith))
+
+  -- at most one byte is left
+  pub pairs-end : n ≤ i + 1 → pairs (drop i (take n l)) ≡ []
+  unfolding pairs
+  pairs-end h = few (drop i (take n l)) (rw (length-drop, length-take) (omega arith))
+    where
+      few : (m : List ℕ) → length m ≤ 1 → pairs m ≡ []
+      few [] q = refl
+      few (x ∷ []) q = refl
+      few (x ∷ y ∷ m) q = absurd (omega arith)
+
+-- the table before the first turn
+pub no-entry : (t : Table) (l : List Entry) → t ≡ tableOf [] → (t .count ≡ 0) × (t ≡ tableOf (entriesOf t)) × (judgedBy (entriesOf t ++ l) (faulty (entriesOf t) 0 l) ≡ judgedPairs l)
+unfolding tableOf padded
+no-entry t l e = rw e (refl, refl, refl)
+
+-- the table after a turn
+pub one-entry-more : (t u : Table) (e : Entry) → t ≡ tableOf (entriesOf t) → t .count < 16 → u ≡ pushed t e
+    → (u .count ≡ t .count + 1) × (entriesOf u ≡ entriesOf t ++ (e ∷ [])) × (u ≡ tableOf (entriesOf u))
+unfolding tableOf
+one-entry-more t u e s h p =
+    let l = entriesOf t ++ (e ∷ []) in
+    let k : length (entriesOf t) ≡ t .count = sym (ap (λ (x : Table). x .count) s) in
+    let n : length l ≡ t .count + 1 = simp length-append (omega arith) in
+    let q : u ≡ tableOf l = p ∙ ap (λ (x : Table). pushed x e) s ∙ pushed-table (entriesOf t) e (omega arith) in
+    let m : entriesOf u ≡ l = ap entriesOf q ∙ entries-of-table l (omega arith) in
+    (ap (λ (x : Table). x .count) q ∙ n, m, q ∙ ap tableOf (sym m))
+
+-- a turn, with the entries before it, the value before it and the judgement of all
+module _ (before : List Entry) (v : ℕ) (e : Entry) (l : List Entry) (all : Judged) (so : judgedBy (before ++ (e ∷ l)) (faulty before v (e ∷ l)) ≡ all) where
+  pub not-a-channel : ltb 16 (e .channel) ≡ true → refused 7 ≡ all
+  unfolding faulty
+  not-a-channel a = rw a at so
+
+  pub listed-twice : ltb 16 (e .channel) ≡ false → listed (e .channel) before ≡ true → refused 8 ≡ all
+  unfolding faulty
+  listed-twice a b = rw (a, b) at so
+
+  pub value-falls : ltb 16 (e .channel) ≡ false → listed (e .channel) before ≡ false → ltb (e .value) v ≡ true → refused 9 ≡ all
+  unfolding faulty
+  value-falls a b c = rw (a, b, c) at so
+
+  pub good-pair : ltb 16 (e .channel) ≡ false → listed (e .channel) before ≡ false → ltb (e .value) v ≡ false
+      → judgedBy ((before ++ (e ∷ [])) ++ l) (faulty (before ++ (e ∷ [])) (e .value) l) ≡ all
+  unfolding faulty
+  good-pair a b c = rw (append-assoc before (e ∷ []) l) (rw (a, b, c) at so)
+
+-- no pair is left
+pub no-pair : (before : List Entry) (v : ℕ) (all : Judged) → judgedBy (before ++ []) (faulty before v []) ≡ all → record { verdict = Accepted; table = tableOf before } ≡ all
+unfolding faulty
+no-pair before v all so = rw (append-nil before) at so

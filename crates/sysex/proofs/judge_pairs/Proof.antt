@@ -1,0 +1,152 @@
+-- `sysex::judge_pairs` meets its contract. Invariant: the table is that of its entries, two bytes for each, and the judgement of these entries and the pairs from i on
+-- is that of all pairs. The measure is the number of bytes left.
+-- Assumes nothing.
+use Prim.Native.Nat.{ℕ, _+_, _*_, _≤_, _<_, _-_}
+use mathlib.Core.Path.{_≡_, refl, sym, ap, _∙_}
+use mathlib.Core.List.{List, [], _∷_, _++_}
+use native.Mathlib.Omega.{arith}
+use borrow.Author.Needs.{needs}
+use borrow.Author.Tests.{lt-ltb, le-ltb}
+use lib.ListN.{length, take, drop, getD}
+use Rattle.splitter.proofs.Sizes.{bytes-37}
+use Rattle.table.specs.declared.Entry.{Entry}
+use Rattle.table.specs.Table.{entry, entriesOf, tableOf}
+use Rattle.sysex.specs.SysEx.{pairs, faulty, judgedBy, judgedPairs}
+use Rattle.sysex.proofs.Pairs.{pairs-next, pairs-end, no-entry, one-entry-more, not-a-channel, listed-twice, value-falls, good-pair, no-pair}
+use Rattle.sysex.proofs.judge_pairs.Statement.{statement}
+use Rattle.sysex.proofs.judge_pairs.Tie as tie
+
+abbrev Inv-loop : tie.InvT-loop
+Inv-loop bytes n t₀ before₀ i₀ t before i = (n ≤ 36) × (i ≤ 36) × (length bytes ≡ 37) × (2 * t .count + 4 ≡ i) × (t ≡ tableOf (entriesOf t))
+    × (judgedBy (entriesOf t ++ pairs (drop i (take n bytes))) (faulty (entriesOf t) before (pairs (drop i (take n bytes)))) ≡ judgedPairs (pairs (drop 4 (take n bytes))))
+
+abbrev μ-loop : tie.MeasureT-loop
+μ-loop bytes n t₀ before₀ i₀ t before i = n - i
+
+cast-n : tie.Need-cast-n Inv-loop μ-loop
+cast-n c = search needs
+
+empty-requires : tie.Need-empty-requires Inv-loop μ-loop
+empty-requires c κs = search needs
+
+loop-holds : tie.Need-loop-holds Inv-loop μ-loop
+loop-holds c =
+    let s = c .before .before .before in
+    let p = s .args .p in
+    let e = no-entry (c .empty .result) (pairs (drop 4 (take (p .count) (p .bytes)))) (c .empty .ensures) in
+    (s .pre, omega arith, bytes-37 p (s .good .0), omega arith, e .1, e .2)
+
+add-loop : tie.Need-add-loop Inv-loop μ-loop
+add-loop c = search needs
+
+array-read-m : tie.Need-array-read-m Inv-loop μ-loop
+array-read-m c = search needs
+
+add-v : tie.Need-add-v Inv-loop μ-loop
+add-v c = search needs
+
+array-read-v : tie.Need-array-read-v Inv-loop μ-loop
+array-read-v c = search needs
+
+refuse-requires : tie.Need-refuse-requires Inv-loop μ-loop
+refuse-requires c κs = search needs
+
+returns : tie.Need-returns Inv-loop μ-loop
+returns c =
+    let b = c .before .before .before in
+    let l = b .loop in
+    let p = b .before .before .before .before .args .p in
+    let m = getD (p .bytes) (l .i) 0 in
+    let v = getD (p .bytes) (l .i + 1) 0 in
+    let so = rw (pairs-next (p .bytes) (p .count) (l .i) (omega arith) (omega arith)) at (l .inv .5) in
+    c .refuse .ensures ∙ not-a-channel (entriesOf (l .t)) (l .before) (entry (m + 1) v) _ _ so (lt-ltb 16 (m + 1) (omega arith))
+
+add-lists : tie.Need-add-lists Inv-loop μ-loop
+add-lists c = search needs
+
+lists-requires : tie.Need-lists-requires Inv-loop μ-loop
+lists-requires c κs = search needs
+
+refuse-requires-2 : tie.Need-refuse-requires-2 Inv-loop μ-loop
+refuse-requires-2 c κs = search needs
+
+returns-2 : tie.Need-returns-2 Inv-loop μ-loop
+returns-2 c =
+    let b = c .before .before .before .before .before in
+    let l = b .loop in
+    let p = b .before .before .before .before .args .p in
+    let m = getD (p .bytes) (l .i) 0 in
+    let v = getD (p .bytes) (l .i + 1) 0 in
+    let so = rw (pairs-next (p .bytes) (p .count) (l .i) (omega arith) (omega arith)) at (l .inv .5) in
+    c .refuse2 .ensures ∙ listed-twice (entriesOf (l .t)) (l .before) (entry (m + 1) v) _ _ so (le-ltb 16 (m + 1) (omega arith)) (sym (c .before .before .lists .ensures) ∙ c .before .if2 .taken)
+
+refuse-requires-3 : tie.Need-refuse-requires-3 Inv-loop μ-loop
+refuse-requires-3 c κs = search needs
+
+returns-3 : tie.Need-returns-3 Inv-loop μ-loop
+returns-3 c =
+    let b = c .before .before .before .before .before .before in
+    let l = b .loop in
+    let p = b .before .before .before .before .args .p in
+    let m = getD (p .bytes) (l .i) 0 in
+    let v = getD (p .bytes) (l .i + 1) 0 in
+    let so = rw (pairs-next (p .bytes) (p .count) (l .i) (omega arith) (omega arith)) at (l .inv .5) in
+    c .refuse3 .ensures ∙ value-falls (entriesOf (l .t)) (l .before) (entry (m + 1) v) _ _ so (le-ltb 16 (m + 1) (omega arith)) (sym (c .before .before .before .lists .ensures) ∙ c .before .before .if2 .left) (lt-ltb v (l .before) (c .before .if3 .taken))
+
+add-t14 : tie.Need-add-t14 Inv-loop μ-loop
+add-t14 c = search needs
+
+push-requires : tie.Need-push-requires Inv-loop μ-loop
+push-requires c κs = search needs
+
+add-i : tie.Need-add-i Inv-loop μ-loop
+add-i c = search needs
+
+loop-less : tie.Need-loop-less Inv-loop μ-loop
+loop-less c = search needs
+
+loop-again : tie.Need-loop-again Inv-loop μ-loop
+loop-again c =
+    let b = c .before .before .before .before .before .before in
+    let l = b .loop in
+    let p = b .before .before .before .before .args .p in
+    let m = getD (p .bytes) (l .i) 0 in
+    let v = getD (p .bytes) (l .i + 1) 0 in
+    let so = rw (pairs-next (p .bytes) (p .count) (l .i) (omega arith) (omega arith)) at (l .inv .5) in
+    let u = one-entry-more (l .t) (c .push .result) (entry (m + 1) v) (l .inv .4) (omega arith) (c .push .ensures) in
+    let w = good-pair (entriesOf (l .t)) (l .before) (entry (m + 1) v) _ _ so (le-ltb 16 (m + 1) (omega arith)) (sym (c .before .before .before .lists .ensures) ∙ c .before .before .if2 .left) (le-ltb v (l .before) (c .before .if3 .left)) in
+    (omega arith, omega arith, l .inv .2, omega arith, u .2, rw (u .1) w)
+
+returns-4 : tie.Need-returns-4 Inv-loop μ-loop
+returns-4 c =
+    let l = c .before .loop in
+    let p = c .before .before .before .before .before .args .p in
+    rw (l .inv .4) (no-pair (entriesOf (l .t)) (l .before) _ (rw (pairs-end (p .bytes) (p .count) (l .i) (omega arith)) at (l .inv .5)))
+
+pub judge-pairs-spec : {M : Type 1} → statement M
+judge-pairs-spec =
+    tie.close
+    (tie.spec
+    Inv-loop
+    μ-loop
+    cast-n
+    empty-requires
+    loop-holds
+    add-loop
+    array-read-m
+    add-v
+    array-read-v
+    refuse-requires
+    returns
+    add-lists
+    lists-requires
+    refuse-requires-2
+    returns-2
+    refuse-requires-3
+    returns-3
+    add-t14
+    push-requires
+    add-i
+    loop-less
+    loop-again
+    returns-4)
