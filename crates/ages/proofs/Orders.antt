@@ -44,7 +44,7 @@ push-of l g = go (ltb (length l) 64) refl
 abbrev pub no-marks : List ℕ
 no-marks = replicate 64 0
 
-no-mark : (h : ℕ) (b : Bool) → ltb h 64 ≡ b → getD no-marks h 0 ≡ 0
+pub no-mark : (h : ℕ) (b : Bool) → ltb h 64 ≡ b → getD no-marks h 0 ≡ 0
 no-mark h true t = getD-replicate 64 h 0 0 (ltb-true _ _ t)
 no-mark h false t = List·getD-eq-default no-marks 0 {n = h} (ltb-false _ _ t)
 

@@ -1,3 +1,4 @@
+pub mod Assigned
 pub mod Marked
 pub mod Scans
 pub mod Sizes

@@ -4,7 +4,7 @@
 use mathlib.Core.Path.{_≡_, refl, sym, ap, _∙_}
 use mathlib.Core.Bool.{Bool, true, false, _||_, not}
 use mathlib.Core.List.{List, [], _∷_, _++_, append-assoc, append-nil}
-use Prim.Native.Nat.{ℕ, zero, suc, _+_, _≤_}
+use Prim.Native.Nat.{ℕ, zero, suc, _+_, _<_, _≤_}
 use native.Mathlib.Numerals.{add-one}
 use native.Mathlib.Omega.{arith}
 use borrow.Author.Tests.{ltb-true, ltb-false}
@@ -24,16 +24,21 @@ pub bounded-begun : (s : ℕ) → Bounded (begun s)
 unfolding begun
 bounded-begun s = record { counted = omega arith; held = refl }
 
-pub bounded-stored : (p : Parser) (b : ℕ) → Bounded p → Bounded (stored p b)
+abbrev one-more : Parser → ℕ → Parser
+one-more p b = record { status = p .status; count = p .count + 1; bytes = set (p .bytes) (p .count) b }
+
+-- a byte is stored while there is room
+by-room : (Q : Parser → Type 0) (p : Parser) (b : ℕ) → (p .count < 37 → Q (one-more p b)) → (37 ≤ p .count → Q p) → Q (stored p b)
 unfolding stored
-bounded-stored p b h = go (ltb (p .count) 37) refl
+by-room Q p b room full = go (ltb (p .count) 37) refl
   where
-    go : (t : Bool) → ltb (p .count) 37 ≡ t
-        → Bounded (if t then record { status = p .status; count = p .count + 1; bytes = set (p .bytes) (p .count) b } else p)
-    go true e =
-        let k = ltb-true (p .count) 37 e in
-        record { counted = omega arith; held = length-set (p .bytes) (p .count) b ∙ h .held }
-    go false e = h
+    go : (t : Bool) → ltb (p .count) 37 ≡ t → Q (if t then one-more p b else p)
+    go true e = room (ltb-true (p .count) 37 e)
+    go false e = full (ltb-false (p .count) 37 e)
+
+pub bounded-stored : (p : Parser) (b : ℕ) → Bounded p → Bounded (stored p b)
+bounded-stored p b h =
+    by-room Bounded p b (λ k. record { counted = omega arith; held = length-set (p .bytes) (p .count) b ∙ h .held }) (λ k. h)
 
 either : {A : Type 0} (Q : A → Type 0) (t : Bool) {x y : A} → Q x → Q y → Q (if t then x else y)
 either Q true p q = p
@@ -61,21 +66,13 @@ body-length p h = length-take-le (p .count) (p .bytes) (omega (arith, h .counted
 
 -- what a data byte adds to an open SysEx
 pub body-stored : (p : Parser) (b : ℕ) → Bounded p → body (stored p b) ≡ take 37 (body p ++ (b ∷ []))
-unfolding stored
-body-stored p b h = go (ltb (p .count) 37) refl
-  where
-    go : (t : Bool) → ltb (p .count) 37 ≡ t
-        → body (if t then record { status = p .status; count = p .count + 1; bytes = set (p .bytes) (p .count) b } else p) ≡ take 37 (body p ++ (b ∷ []))
-    go true e =
-        let k = ltb-true (p .count) 37 e in
-        let l = h .held in
-        let m = body-length p h in
-        rw (add-one (p .count)) (take-suc-set (p .bytes) (p .count) b (omega arith) ∙ sym (take-all 37 (body p ++ (b ∷ [])) (simp length-append (omega arith))))
-    go false e =
-        let k = ltb-false (p .count) 37 e in
-        let c = h .counted in
-        let m = body-length p h in
-        sym (take-append-le 37 (body p) (b ∷ []) (omega arith) ∙ take-all 37 (body p) (omega arith))
+body-stored p b h =
+    let n = body-length p h in
+    let l = h .held in
+    let c = h .counted in
+    by-room (λ q. body q ≡ take 37 (body p ++ (b ∷ []))) p b
+    (λ k. rw (add-one (p .count)) (take-suc-set (p .bytes) (p .count) b (omega arith) ∙ sym (take-all 37 (body p ++ (b ∷ [])) (simp length-append (omega arith)))))
+    (λ k. sym (take-append-le 37 (body p) (b ∷ []) (omega arith) ∙ take-all 37 (body p) (omega arith)))
 
 -- a data byte in an open SysEx is stored, and the SysEx stays open
 split-open : (p : Parser) (b : ℕ) → inSysEx p ≡ true → ltb b 0x80 ≡ true → split p b .parser ≡ stored p b
@@ -86,8 +83,7 @@ pub body-split : (p : Parser) (b : ℕ) → Bounded p → inSysEx p ≡ true →
 body-split p b h o d = ap body (split-open p b o d) ∙ body-stored p b h
 
 stays-open : (p : Parser) (b : ℕ) → inSysEx p ≡ true → inSysEx (stored p b) ≡ true
-unfolding stored
-stays-open p b o = either (λ q. inSysEx q ≡ true) (ltb (p .count) 37) o o
+stays-open p b o = by-room (λ q. inSysEx q ≡ true) p b (λ k. o) (λ k. o)
 
 -- the parser after a list of bytes
 unfoldable pub after : Parser → List ℕ → Parser
