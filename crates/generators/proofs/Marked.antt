@@ -48,11 +48,11 @@ module _ (l : Leaving) (s : Generators) (h : length (s .state) ≡ 64) where
       turn false n = refl
 
   pub silence-of : record {
-        state = upTo (λ g. if eqb (getD marks g 0) 0 then at s g .state else 0) 64;
-        channel = upTo (λ g. if eqb (getD marks g 0) 0 then at s g .channel else 0) 64;
-        key = upTo (λ g. if eqb (getD marks g 0) 0 then at s g .key else 0) 64;
-        ages = without (s .ages) marks;
-      }
+    state = upTo (λ g. if eqb (getD marks g 0) 0 then at s g .state else 0) 64;
+    channel = upTo (λ g. if eqb (getD marks g 0) 0 then at s g .channel else 0) 64;
+    key = upTo (λ g. if eqb (getD marks g 0) 0 then at s g .key else 0) 64;
+    ages = without (s .ages) marks;
+  }
       ≡ silenced l s
   unfolding silenced without
   silence-of =

@@ -1,7 +1,7 @@
 // Ways of going over an array, as definitions (specs/) with one law for each (proofs/): what every loop of this repository is proved by;
 // and the small choices that loop bodies make without a branch. Assumes nothing.
 ghost use mathlib.Core.Path.{_≡_};
-ghost use Prim.Native.Nat.{_≤_};
+ghost use Prim.Native.Nat.{_≤_, _-_};
 ghost use lib.ListN.{getD};
 ghost use Rattle.loops.specs.Cases.{if_then_else_, bit, atMost};
 
@@ -23,6 +23,13 @@ pub fn at_most(m: u8, n: u8) -> u8
     ensures { λ r. ⌜ (r ≡ atMost m n) × (r ≤ m) ⌝ }
 {
     if n < m { n } else { m }
+}
+
+// a less b, 0 where b is the larger.
+pub fn less(a: u8, b: u8) -> u8
+    ensures { λ r. ⌜ r ≡ a - b ⌝ }
+{
+    if b <= a { a - b } else { 0 }
 }
 
 // The element of a number i, 0 where there is none.

@@ -71,13 +71,14 @@ loop-again c =
     let b = c .before .before .before .before .before in
     let a = b .before .before .before .before .before .before .args in
     let m = b .before .at-most in
-    let order = a .self .ages .generator in
-    (omega arith,
-    b .loop .inv .1,
-    b .loop .inv .2,
-    λ keys.
-        let t = rw (c .before .before .before .element .ensures, c .before .before .element2 .ensures) at (sym (c .before .wanted .ensures (getD keys (getD order (b .loop .i) 0) 0)) ∙ c .if1 .left) in
-        part-no (fits (a .w) (a .self .state) (a .self .channel) keys) 0 order (m .result) (omega arith) (b .loop .i) _ (omega arith) (b .loop .inv .3 keys) t)
+    let order = a .self .ages .generator in (
+      omega arith,
+      b .loop .inv .1,
+      b .loop .inv .2,
+      λ keys.
+          let t = rw (c .before .before .before .element .ensures, c .before .before .element2 .ensures) at (sym (c .before .wanted .ensures (getD keys (getD order (b .loop .i) 0) 0)) ∙ c .if1 .left) in
+          part-no (fits (a .w) (a .self .state) (a .self .channel) keys) 0 order (m .result) (omega arith) (b .loop .i) _ (omega arith) (b .loop .inv .3 keys) t,
+    )
 
 returns-2 : tie.Need-returns-2 Inv-loop μ-loop
 unfolding oldest

@@ -1,0 +1,99 @@
+-- `stealing::steal_from` meets its contract. Invariant: the answer for the first i entries is the answer for all. The measure is i.
+-- Assumes nothing.
+use Prim.Native.Nat.{ℕ, _≤_, _<_, _-_}
+use mathlib.Core.Path.{_≡_, refl, sym, ap, _∙_}
+use native.Mathlib.Omega.{arith}
+use lib.ListN.{length, take}
+use Rattle.loops.proofs.Padded.{take-at-most}
+use Rattle.table.specs.Table.{sharesFrom}
+use Rattle.table.proofs.Sizes.{entries-16}
+use Rattle.stealing.specs.Stealing.{counted, overShare, toLoser, stealFrom}
+use Rattle.stealing.proofs.Backward.{over-yes, over-no}
+use borrow.Author.Needs.{needs}
+use Rattle.stealing.proofs.steal_from.Statement.{statement}
+use Rattle.stealing.proofs.steal_from.Tie as tie
+
+abbrev Inv-loop : tie.InvT-loop
+Inv-loop s p new entries i₀ i =
+    (i ≤ 16)
+    × (length entries ≡ 16)
+    × (overShare (counted s new) (sharesFrom p 0 (take i entries)) ≡ overShare (counted s new) (sharesFrom p 0 (take i₀ entries)))
+
+abbrev μ-loop : tie.MeasureT-loop
+μ-loop s p new entries i₀ i = i
+
+at-most-requires : tie.Need-at-most-requires Inv-loop μ-loop
+at-most-requires c κs = search needs
+
+cast-i : tie.Need-cast-i Inv-loop μ-loop
+cast-i c = search needs
+
+loop-holds : tie.Need-loop-holds Inv-loop μ-loop
+loop-holds c =
+    let a = c .before .before in
+    (omega (arith, c .at-most .ensures .1), entries-16 (a .args .t) (a .good .1 .0), refl)
+
+sub-i : tie.Need-sub-i Inv-loop μ-loop
+sub-i c = search needs
+
+mul-e : tie.Need-mul-e Inv-loop μ-loop
+mul-e c = search needs
+
+array-copy-out-e : tie.Need-array-copy-out-e Inv-loop μ-loop
+array-copy-out-e c = search needs
+
+value-before-requires : tie.Need-value-before-requires Inv-loop μ-loop
+value-before-requires c κs = search needs
+
+is-over-requires : tie.Need-is-over-requires Inv-loop μ-loop
+is-over-requires c κs = search needs
+
+returns : tie.Need-returns Inv-loop μ-loop
+unfolding stealFrom
+returns c =
+    let b = c .before .before .before .before .before in
+    let a = b .before .before .before .args in
+    let m = b .before .at-most in
+    let h : 0 < b .loop .i = c .before .before .before .before .loop-test .taken in
+    let t = rw (c .before .before .value-before .ensures) at (sym (c .before .is-over .ensures) ∙ c .if1 .taken) in
+    rw (← (take-at-most 16 (a .t .count) (a .t .entries) (b .loop .inv .1)), ← (m .ensures .0))
+    (ap toLoser (over-yes (a .p) (counted (a .s) (a .new)) (a .t .entries) (b .loop .i) h (omega arith) _ (b .loop .inv .2) t))
+
+loop-less : tie.Need-loop-less Inv-loop μ-loop
+loop-less c = search needs
+
+loop-again : tie.Need-loop-again Inv-loop μ-loop
+loop-again c =
+    let b = c .before .before .before .before .before in
+    let a = b .before .before .before .args in
+    let h : 0 < b .loop .i = c .before .before .before .before .loop-test .taken in
+    let t = rw (c .before .before .value-before .ensures) at (sym (c .before .is-over .ensures) ∙ c .if1 .left) in
+    (omega arith, b .loop .inv .1, over-no (a .p) (counted (a .s) (a .new)) (a .t .entries) (b .loop .i) h (omega arith) _ (b .loop .inv .2) t)
+
+returns-2 : tie.Need-returns-2 Inv-loop μ-loop
+unfolding stealFrom sharesFrom overShare
+returns-2 c =
+    let b = c .before in
+    let a = b .before .before .before .args in
+    let m = b .before .at-most in
+    let e : b .loop .i ≡ 0 = omega arith in
+    rw (← (take-at-most 16 (a .t .count) (a .t .entries) (b .loop .inv .1)), ← (m .ensures .0)) (ap toLoser (rw e at (b .loop .inv .2)))
+
+pub steal-from-spec : {M : Type 1} → statement M
+steal-from-spec =
+    tie.close
+    (tie.spec
+    Inv-loop
+    μ-loop
+    at-most-requires
+    cast-i
+    loop-holds
+    sub-i
+    mul-e
+    array-copy-out-e
+    value-before-requires
+    is-over-requires
+    returns
+    loop-less
+    loop-again
+    returns-2)

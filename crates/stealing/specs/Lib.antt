@@ -1,0 +1,2 @@
+-- Who loses a note.
+pub mod Stealing

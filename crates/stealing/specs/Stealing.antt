@@ -1,0 +1,33 @@
+-- Document 01, "Note-on", step 5: the channel to steal from.
+use Prim.Native.Nat.{ℕ, _+_}
+use mathlib.Core.List.{List, [], _∷_}
+use mathlib.Core.Option.{Option, some, none}
+use lib.Dec.{eqb, ltb}
+use Rattle.loops.specs.Cases.{if_then_else_, bit}
+use Rattle.table.specs.declared.Entry.{Entry}
+use Rattle.table.specs.declared.Table.{Table}
+use Rattle.table.specs.Table.{shares}
+use Rattle.generators.specs.declared.Generators.{Generators}
+use Rattle.generators.specs.Generators.{busyCount}
+use Rattle.stealing.specs.declared.Loser.{Loser}
+use Rattle.stealing.specs.declared.Loser.the-variants.{Channel, Nobody}
+
+-- "count each channel's busy generators, with the new note", which is one of channel new
+abbrev pub counted : Generators → ℕ → ℕ → ℕ
+counted s new c = busyCount s c + bit (eqb c new)
+
+abbrev pub orElse : Option ℕ → Option ℕ → Option ℕ
+orElse (some c) o = some c
+orElse none o = o
+
+-- "Among channels over their share take that of lowest priority": the last one in the list of shares whose count n is over its share
+unfoldable pub overShare : (ℕ → ℕ) → List Entry → Option ℕ
+overShare n [] = none
+overShare n (e ∷ l) = orElse (overShare n l) (if ltb (e .value) (n (e .channel)) then some (e .channel) else none)
+
+abbrev pub toLoser : Option ℕ → Loser
+toLoser (some c) = Channel c
+toLoser none = Nobody
+
+unfoldable pub stealFrom : Generators → Table → ℕ → ℕ → Loser
+stealFrom s t p new = toLoser (overShare (counted s new) (shares p t))
