@@ -1,3 +1,2 @@
--- What the generators do.
+-- The generators: what each is, and how one is assigned.
 pub mod Generators
-pub mod Assigned

@@ -1,0 +1,33 @@
+-- Document 01, "Note-on", steps 4 and 5: the generator to take, and the counting of a channel's notes.
+use Prim.Native.Nat.{ℕ}
+use mathlib.Core.Bool.{Bool}
+use mathlib.Core.Option.{Option, some, none}
+use Rattle.loops.specs.Cases.{bit, atMost}
+use Rattle.loops.specs.Passes.{upTo, total, firstOf}
+use Rattle.ages.specs.Ages.{oldestFirst}
+use Rattle.generators.specs.declared.Generators.{Generators}
+use Rattle.generators.specs.Generators.{Generator, at, isIdle, isReleasing, isBusyOn}
+use Rattle.choice.specs.declared.Want.{Want}
+use Rattle.choice.specs.declared.Want.the-variants.{Releasing, BusyOn}
+use Rattle.choice.specs.declared.Found.{Found}
+use Rattle.choice.specs.declared.Found.the-variants.{At, Nothing}
+
+abbrev pub found : Option ℕ → Found
+found none = Nothing
+found (some g) = At g
+
+-- "Note-on", step 4: "the idle generator of lowest number", among the first P
+unfoldable pub lowestIdle : Generators → ℕ → Found
+lowestIdle s p = found (firstOf (λ g. isIdle (at s g)) (upTo (λ g. g) (atMost 64 p)))
+
+-- step 4: "the oldest releasing one"; step 5: the "oldest busy generator" of a channel
+unfoldable pub wanted : Want → Generator → Bool
+wanted Releasing x = isReleasing x
+wanted (BusyOn c) x = isBusyOn c x
+
+unfoldable pub oldest : Want → Generators → Found
+oldest w s = found (firstOf (λ g. wanted w (at s g)) (oldestFirst (s .ages)))
+
+-- step 5: "count each channel's busy generators"
+unfoldable pub busyCount : Generators → ℕ → ℕ
+busyCount s c = total (λ g. bit (isBusyOn c (at s g))) 64

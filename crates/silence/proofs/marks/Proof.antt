@@ -1,0 +1,87 @@
+-- `silence::marks` meets its contract. Invariant: the first i marks are those of the rule, the others 0.
+-- Assumes nothing.
+use Prim.Native.Nat.{ℕ, _≤_, _<_, _-_}
+use mathlib.Core.Path.{_≡_, refl, sym, ap, _∙_}
+use native.Mathlib.Omega.{arith}
+use mathlib.Core.Bool.{Bool}
+use mathlib.Core.List.{List, _++_}
+use lib.ListN.{length, drop, getD}
+use Rattle.loops.specs.Cases.{bit}
+use Rattle.loops.specs.Passes.{upTo}
+use Rattle.loops.proofs.Fill.{fill-next, fill-end}
+use Rattle.silence.specs.declared.Leaving.{Leaving}
+use Rattle.generators.specs.Generators.{generator}
+use Rattle.silence.specs.Silence.{leaves}
+use borrow.Author.Needs.{needs}
+use Rattle.silence.proofs.marks.Statement.{statement}
+use Rattle.silence.proofs.marks.Tie as tie
+
+-- the mark of generator g
+abbrev rule : List ℕ → List ℕ → List ℕ → Leaving → ℕ → ℕ
+rule state channel keys l g = bit (leaves l g (generator (getD state g 0) (getD channel g 0) (getD keys g 0)))
+
+abbrev Inv-loop : tie.InvT-loop
+Inv-loop l state channel keys out₀ i₀ out i = (i ≤ 64) × (length out₀ ≡ 64) × (out ≡ upTo (rule state channel keys l) i ++ drop i out₀)
+
+abbrev μ-loop : tie.MeasureT-loop
+μ-loop l state channel keys out₀ i₀ out i = 64 - i
+
+loop-holds : tie.Need-loop-holds Inv-loop μ-loop
+unfolding upTo
+loop-holds c = (omega arith, refl, refl)
+
+cast-leaves : tie.Need-cast-leaves Inv-loop μ-loop
+cast-leaves c = search needs
+
+array-read-leaves : tie.Need-array-read-leaves Inv-loop μ-loop
+array-read-leaves c = search needs
+
+array-read-leaves-2 : tie.Need-array-read-leaves-2 Inv-loop μ-loop
+array-read-leaves-2 c = search needs
+
+array-read-leaves-3 : tie.Need-array-read-leaves-3 Inv-loop μ-loop
+array-read-leaves-3 c = search needs
+
+leaves-requires : tie.Need-leaves-requires Inv-loop μ-loop
+leaves-requires c κs = search needs
+
+one-requires : tie.Need-one-requires Inv-loop μ-loop
+one-requires c κs = search needs
+
+array-write-out : tie.Need-array-write-out Inv-loop μ-loop
+array-write-out c = search needs
+
+add-i : tie.Need-add-i Inv-loop μ-loop
+add-i c = search needs
+
+loop-less : tie.Need-loop-less Inv-loop μ-loop
+loop-less c = search needs
+
+loop-again : tie.Need-loop-again Inv-loop μ-loop
+loop-again c =
+    let l = c .before .before .before .loop in
+    let a = c .before .before .before .before .args in
+    let x = c .one .ensures .0 ∙ ap bit (c .before .leaves .ensures) in
+    (omega arith, l .inv .1, fill-next (rule (a .t1) (a .t2) (a .t3) (a .l)) 0 _ (l .out) (l .i) _ (omega arith) (l .inv .2) x)
+
+returns : tie.Need-returns Inv-loop μ-loop
+returns c = let l = c .before .loop in fill-end _ _ _ _ 64 (omega arith) (omega arith) (l .inv .2)
+
+pub marks-spec : {M : Type 1} → statement M
+marks-spec =
+    tie.close
+    (tie.spec
+    Inv-loop
+    μ-loop
+    loop-holds
+    cast-leaves
+    array-read-leaves
+    array-read-leaves-2
+    array-read-leaves-3
+    leaves-requires
+    one-requires
+    array-write-out
+    add-i
+    loop-less
+    loop-again
+    returns)

@@ -1,0 +1,2 @@
+-- Generators that fall silent.
+pub mod Silence

@@ -1,0 +1,80 @@
+// Generators that fall silent (document 01, "Note-on", step 3, and "Other messages"), by value, for every value, in a few passes however many they are.
+// Assumes nothing.
+ghost use mathlib.Core.Path.{_≡_};
+ghost use lib.Dec.{eqb};
+ghost use lib.ListN.{getD};
+ghost use Rattle.loops.specs.Cases.{if_then_else_, bit};
+ghost use Rattle.loops.specs.Passes.{upTo};
+ghost use Rattle.generators.specs.Generators.{generator};
+ghost use Rattle.silence.specs.Silence.{leaves, silenced};
+use generators::Generators;
+
+// The sounding generators that become idle.
+pub enum Leaving {
+    // One, by its number: the tone generator reported its end.
+    One(u8),
+    // All of a channel: controller 120.
+    Channel(u8),
+    // Those of a channel with another key of this key's exclusive group: a new drum note.
+    Group(u8, u8),
+}
+
+fn leaves(l: Leaving, g: u8, state: u8, channel: u8, key: u8) -> bool
+    ensures { λ r. ⌜ r ≡ leaves l g (generator state channel key) ⌝ }
+{
+    if state == generators::IDLE {
+        return false;
+    }
+    match l {
+        Leaving::One(h) => g == h,
+        Leaving::Channel(c) => channel == c,
+        Leaving::Group(c, k) => (channel == c) & drums::excluded(k, key),
+    }
+}
+
+// A mark, 1, for each generator that becomes idle.
+fn marks(state: [u8; 64], channel: [u8; 64], keys: [u8; 64], l: Leaving) -> [u8; 64]
+    ensures { λ r. ⌜ r ≡ upTo (λ g. bit (leaves l g (generator (getD state g 0) (getD channel g 0) (getD keys g 0)))) 64 ⌝ }
+{
+    let mut out = [0u8; 64];
+    let mut i: usize = 0;
+    while i < 64 {
+        out[i] = loops::one(leaves(l, i as u8, state[i], channel[i], keys[i]));
+        i += 1;
+    }
+    out
+}
+
+// The numbers of the generators without a mark, and 0 for the others.
+fn unmarked(numbers: [u8; 64], marks: [u8; 64]) -> [u8; 64]
+    ensures { λ r. ⌜ r ≡ upTo (λ g. if eqb (getD marks g 0) 0 then getD numbers g 0 else 0) 64 ⌝ }
+{
+    let mut out = numbers;
+    let mut i: usize = 0;
+    while i < 64 {
+        out[i] = loops::if_else(marks[i] == 0, numbers[i], 0);
+        i += 1;
+    }
+    out
+}
+
+// Generators that become idle also leave the order of age.
+pub fn fall_silent(s: Generators, l: Leaving) -> Generators
+    ensures { λ r. ⌜ r ≡ silenced l s ⌝ }
+{
+    let state = s.state;
+    let channel = s.channel;
+    let keys = s.key;
+    let gone = marks(state, channel, keys, l);
+    let order = s.ages;
+    let left = order.without(gone);
+    let states_left = unmarked(state, gone);
+    let channels_left = unmarked(channel, gone);
+    let keys_left = unmarked(keys, gone);
+    Generators {
+        state: states_left,
+        channel: channels_left,
+        key: keys_left,
+        ages: left,
+    }
+}
