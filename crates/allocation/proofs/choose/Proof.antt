@@ -1,0 +1,59 @@
+-- `allocation::choose` meets its contract: each search found a generator, or the next one decides.
+-- Assumes nothing.
+use mathlib.Core.Path.{sym, _∙_}
+use Rattle.allocation.specs.Allocation.{choice}
+use borrow.Author.Needs.{needs}
+use Rattle.allocation.proofs.choose.Statement.{statement}
+use Rattle.allocation.proofs.choose.Tie as tie
+
+lowest-idle-requires : tie.Need-lowest-idle-requires
+lowest-idle-requires c κs = search needs
+
+enum-known-g : tie.Need-enum-known-g
+enum-known-g c = search needs
+
+returns : tie.Need-returns
+unfolding choice
+returns c = simp (sym (c .before .before .before .lowest-idle .ensures) ∙ c .before .g .given .1)
+
+enum-told : tie.Need-enum-told
+enum-told c = search needs
+
+oldest-requires : tie.Need-oldest-requires
+oldest-requires c κs = search needs
+
+enum-known-g-2 : tie.Need-enum-known-g-2
+enum-known-g-2 c = search needs
+
+returns-2 : tie.Need-returns-2
+unfolding choice
+returns-2 c =
+    let b = c .before .before .before .before in
+    simp (sym (b .before .before .lowest-idle .ensures) ∙ b .enum-told .given .1, sym (c .before .before .before .oldest .ensures) ∙ c .before .g2 .given .1)
+
+enum-told-2 : tie.Need-enum-told-2
+enum-told-2 c = search needs
+
+steal-requires : tie.Need-steal-requires
+steal-requires c κs = search needs
+
+returns-3 : tie.Need-returns-3
+unfolding choice
+returns-3 c =
+    let b = c .before .before .before .before in
+    simp (sym (b .before .before .lowest-idle .ensures) ∙ b .enum-told .given .1, sym (c .before .before .before .oldest .ensures) ∙ c .before .enum-told2 .given .1, c .steal .ensures)
+
+pub choose-spec : {M : Type 1} → statement M
+choose-spec =
+    tie.close
+    (tie.spec
+    lowest-idle-requires
+    enum-known-g
+    returns
+    enum-told
+    oldest-requires
+    enum-known-g-2
+    returns-2
+    enum-told-2
+    steal-requires
+    returns-3)

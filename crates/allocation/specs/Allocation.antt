@@ -1,0 +1,64 @@
+-- Document 01, "Note-on, velocity above 0": steps 1 to 5, and the assignment.
+use Prim.Native.Nat.{ℕ}
+use mathlib.Core.Bool.{Bool}
+use Rattle.loops.specs.Cases.{if_then_else_}
+use Rattle.table.specs.declared.Table.{Table}
+use Rattle.table.specs.Table.{shareOf, isMasked}
+use Rattle.generators.specs.declared.Generators.{Generators}
+use Rattle.generators.specs.Generators.{assigned}
+use Rattle.changes.specs.declared.Change.the-variants.{ReleaseNote}
+use Rattle.changes.specs.Changes.{changed}
+use Rattle.silence.specs.declared.Leaving.the-variants.{Group}
+use Rattle.silence.specs.Silence.{silenced}
+use Rattle.choice.specs.declared.Found.{Found}
+use Rattle.choice.specs.declared.Found.the-variants.{At, Nothing}
+use Rattle.choice.specs.declared.Want.the-variants.{Releasing, BusyOn}
+use Rattle.choice.specs.Choice.{lowestIdle, oldest}
+use Rattle.stealing.specs.declared.Loser.{Loser}
+use Rattle.stealing.specs.declared.Loser.the-variants.{Channel, Nobody}
+use Rattle.stealing.specs.Stealing.{stealFrom}
+use Rattle.allocation.specs.declared.Was.{Was}
+use Rattle.allocation.specs.declared.Was.the-variants.{Idle, Release, Stolen}
+use Rattle.allocation.specs.declared.Taken.{Taken}
+use Rattle.allocation.specs.declared.Taken.the-variants.{Took, Refused}
+use Rattle.allocation.specs.declared.Allocated.{Allocated}
+
+-- steps 2 and 3: what the new note ends
+unfoldable pub cleared : Bool → ℕ → ℕ → Generators → Generators
+cleared rhythm c k s = if rhythm then silenced (Group c k) (changed (ReleaseNote c k) s) else changed (ReleaseNote c k) s
+
+-- step 5: the oldest busy generator of the channel to steal from; "If it has none, number 11"
+abbrev pub stolen : Found → Taken
+stolen (At g) = Took g Stolen
+stolen Nothing = Refused 11
+
+abbrev pub stealOf : Generators → Loser → Taken
+stealOf s (Channel d) = stolen (oldest (BusyOn d) s)
+stealOf s Nobody = Refused 11
+
+unfoldable pub step5 : Generators → Table → ℕ → ℕ → Taken
+step5 s t p c = stealOf s (stealFrom s t p c)
+
+-- step 4: "Take the idle generator of lowest number; else the oldest releasing one"
+abbrev pub orElse5 : Generators → Table → ℕ → ℕ → Found → Taken
+orElse5 s t p c (At g) = Took g Release
+orElse5 s t p c Nothing = step5 s t p c
+
+abbrev pub orElse4 : Generators → Table → ℕ → ℕ → Found → Taken
+orElse4 s t p c (At g) = Took g Idle
+orElse4 s t p c Nothing = orElse5 s t p c (oldest Releasing s)
+
+unfoldable pub choice : Generators → Table → ℕ → ℕ → Taken
+choice s t p c = orElse4 s t p c (lowestIdle s p)
+
+-- "The note is then held and is the newest"; a refused note-on leaves everything as it was
+abbrev pub allocated : Generators → Generators → ℕ → ℕ → Taken → Allocated
+allocated s r c k (Took g w) = record { taken = Took g w; generators = assigned g c k r }
+allocated s r c k (Refused n) = record { taken = Refused n; generators = s }
+
+-- step 1: "Masked channel: number 10"; then steps 2 to 5
+unfoldable pub noteOn : Generators → Table → ℕ → Bool → ℕ → ℕ → Allocated
+noteOn s t p rhythm c k =
+    if isMasked (shareOf t p c)
+    then record { taken = Refused 10; generators = s }
+    else allocated s (cleared rhythm c k s) c k (choice (cleared rhythm c k s) t p c)

@@ -1,0 +1,2 @@
+-- Which generator a note gets.
+pub mod Allocation

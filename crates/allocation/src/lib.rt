@@ -1,0 +1,95 @@
+// Which generator a note gets (document 01, "Note-on, velocity above 0"): steps 1 to 5 and the assignment, by value, for every value of the generators and
+// of the table. Assumes nothing.
+ghost use mathlib.Core.Path.{_≡_};
+ghost use Rattle.allocation.specs.Allocation.{cleared, stolen, stealOf, step5, orElse5, choice, allocated, noteOn};
+use changes::Change;
+use choice::Found;
+use choice::Want;
+use generators::Generators;
+use silence::Leaving;
+use stealing::Loser;
+use table::Table;
+
+// What the generator of a new note was.
+pub enum Was {
+    // It was idle.
+    Idle,
+    // It was releasing, the oldest one.
+    Release,
+    // It was busy, and its note is stolen.
+    Stolen,
+}
+
+// What a note-on gets.
+pub enum Taken {
+    // This generator.
+    Took(u8, Was),
+    // None, with its number: 10 or 11.
+    Refused(u8),
+}
+
+pub struct Allocated {
+    pub taken: Taken,
+    pub generators: Generators,
+}
+
+// Steps 2 and 3: the key's earlier note is released and, on a rhythm channel, other drums of its group fall silent.
+fn clear(s: Generators, rhythm: bool, channel: u8, key: u8) -> Generators
+    ensures { λ r. ⌜ r ≡ cleared rhythm channel key s ⌝ }
+{
+    let released = changes::apply(s, Change::ReleaseNote(channel, key));
+    if rhythm {
+        return silence::fall_silent(released, Leaving::Group(channel, key));
+    }
+    released
+}
+
+// Step 5: the oldest busy generator of the channel of lowest priority over its share.
+fn steal(s: Generators, t: Table, p: u8, channel: u8) -> Taken
+    ensures { λ r. ⌜ r ≡ step5 s t p channel ⌝ }
+{
+    let Loser::Channel(d) = stealing::steal_from(s, t, p, channel) else {
+        return Taken::Refused(11);
+    };
+    let Found::At(g) = choice::oldest(s, Want::BusyOn(d)) else {
+        return Taken::Refused(11);
+    };
+    Taken::Took(g, Was::Stolen)
+}
+
+// Steps 4 and 5: idle before releasing before stolen.
+fn choose(s: Generators, t: Table, p: u8, channel: u8) -> Taken
+    ensures { λ r. ⌜ r ≡ choice s t p channel ⌝ }
+{
+    if let Found::At(g) = choice::lowest_idle(s, p) {
+        return Taken::Took(g, Was::Idle);
+    }
+    if let Found::At(g) = choice::oldest(s, Want::Releasing) {
+        return Taken::Took(g, Was::Release);
+    }
+    steal(s, t, p, channel)
+}
+
+// A note-on with a velocity above 0: the generators after it, and which one it took.
+pub fn note_on(s: Generators, t: Table, p: u8, rhythm: bool, channel: u8, key: u8) -> Allocated
+    ensures { λ r. ⌜ r ≡ noteOn s t p rhythm channel key ⌝ }
+{
+    if t.masks(p, channel) {
+        return Allocated {
+            taken: Taken::Refused(10),
+            generators: s,
+        };
+    }
+    let rest = clear(s, rhythm, channel, key);
+    let taken = choose(rest, t, p, channel);
+    let Taken::Took(g, _) = taken else {
+        return Allocated {
+            taken: taken,
+            generators: s,
+        };
+    };
+    Allocated {
+        taken: taken,
+        generators: rest.assign(g, channel, key),
+    }
+}

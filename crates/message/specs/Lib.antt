@@ -1,0 +1,2 @@
+-- What a channel message says.
+pub mod Message
