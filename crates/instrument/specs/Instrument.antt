@@ -1,0 +1,40 @@
+-- Document 01, "The device record": all but the parser, so that what acts on a whole message knows no bytes.
+use Prim.Native.Nat.{ℕ, _-_}
+use mathlib.Core.Bool.{Bool}
+use mathlib.Core.List.{List}
+use lib.Dec.{eqb, leb}
+use Rattle.table.specs.declared.Table.{Table}
+use Rattle.table.specs.Table.{startTable}
+use Rattle.channels.specs.declared.Channel.{Channel}
+use Rattle.channels.specs.Channel.{freshChannels, channelAt, replaced}
+use Rattle.generators.specs.declared.Generators.{Generators}
+use Rattle.generators.specs.Generators.{silent}
+use Rattle.instrument.specs.declared.Instrument.{Instrument}
+
+-- "Polyphony P .. and own device ID .., fixed at the start"; a fresh record
+unfoldable pub fresh : ℕ → ℕ → Instrument
+fresh p id = record { polyphony = p; id = id; table = startTable p; channels = freshChannels; generators = silent }
+
+abbrev pub withTable : Instrument → Table → Instrument
+withTable i t = record { polyphony = i .polyphony; id = i .id; table = t; channels = i .channels; generators = i .generators }
+
+abbrev pub withChannels : Instrument → List Channel → Instrument
+withChannels i l = record { polyphony = i .polyphony; id = i .id; table = i .table; channels = l; generators = i .generators }
+
+abbrev pub withGenerators : Instrument → Generators → Instrument
+withGenerators i s = record { polyphony = i .polyphony; id = i .id; table = i .table; channels = i .channels; generators = s }
+
+-- the record of channel c
+unfoldable pub channelOf : Instrument → ℕ → Channel
+channelOf i c = channelAt (i .channels) (c - 1)
+
+unfoldable pub withChannel : Instrument → ℕ → Channel → Instrument
+withChannel i c x = withChannels i (replaced (i .channels) (c - 1) x)
+
+-- "hold is 64 or more"
+abbrev pub pedalDown : Instrument → ℕ → Bool
+pedalDown i c = leb 64 (channelOf i c .hold)
+
+-- the rhythm channel
+unfoldable pub isRhythm : Instrument → ℕ → Bool
+isRhythm i c = eqb c 10

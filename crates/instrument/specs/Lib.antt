@@ -1,0 +1,2 @@
+-- The record of the sound module, without its parser.
+pub mod Instrument

@@ -1,0 +1,2 @@
+-- What a channel message does.
+pub mod Playing
