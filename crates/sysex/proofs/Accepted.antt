@@ -1,6 +1,6 @@
 -- An accepted MIP message's table is that message, and well formed: each pair passed 7, 8 and 9 against all pairs before it.
 -- Assumes nothing.
-use mathlib.Core.Path.{_≡_, refl, sym, ap, _∙_}
+use mathlib.Core.Path.{_≡_, refl, ap, _∙_}
 use mathlib.Core.Bool.{Bool, true, false, _||_}
 use mathlib.Core.List.{List, [], _∷_, _++_}
 use mathlib.Core.Option.{Option, some, none}
@@ -14,10 +14,9 @@ use Rattle.table.specs.declared.Entry.{Entry}
 use Rattle.table.specs.Laws.{Rising, Distinct, Channels, WellFormed}
 use Rattle.table.specs.Table.{entry, entriesOf, tableOf, listed}
 use Rattle.table.proofs.Places.{entries-of-table}
-use Rattle.sysex.specs.declared.Judged.{Judged}
 use Rattle.sysex.specs.declared.Verdict.the-variants.{Accepted}
 use Rattle.sysex.specs.Laws.{AcceptedTable}
-use Rattle.sysex.specs.SysEx.{pairs, faulty, refused, judgedBy, judgedPairs, judged}
+use Rattle.sysex.specs.SysEx.{pairs, faulty, refused, judgedBy, judged}
 
 listed-append : (c : ℕ) (l m : List Entry) → listed c (l ++ m) ≡ listed c l || listed c m
 unfolding listed

@@ -1,12 +1,12 @@
 -- The loop over the pairs of a MIP message: at turn i the judgement of the table so far and the pairs from i on is that of all pairs.
 -- Assumes nothing.
 use mathlib.Core.Path.{_≡_, refl, sym, ap, _∙_}
-use mathlib.Core.Bool.{Bool, true, false}
+use mathlib.Core.Bool.{true, false}
 use mathlib.Core.List.{List, [], _∷_, _++_, append-assoc, append-nil}
 use Prim.Native.Nat.{ℕ, suc, _+_, _≤_, _<_}
 use native.Mathlib.Numerals.{add-one}
 use native.Mathlib.Omega.{arith}
-use lib.Dec.{ltb}
+use borrow.Author.Tests.{lt-ltb, le-ltb}
 use lib.ListN.{length, take, drop, getD, length-append, length-take, length-drop}
 use lib.Seq.{drop-cons, getD-take}
 use Rattle.loops.specs.Passes.{padded}
@@ -55,26 +55,32 @@ one-entry-more t u e s h p =
     let m : entriesOf u ≡ l = ap entriesOf q ∙ entries-of-table l (omega arith) in
     (ap (λ (x : Table). x .count) q ∙ n, m, q ∙ ap tableOf (sym m))
 
--- a turn, with the entries before it, the value before it and the judgement of all
-module _ (before : List Entry) (v : ℕ) (e : Entry) (l : List Entry) (all : Judged) (so : judgedBy (before ++ (e ∷ l)) (faulty before v (e ∷ l)) ≡ all) where
-  pub not-a-channel : ltb 16 (e .channel) ≡ true → refused 7 ≡ all
+-- a turn at i, with the entries and the value before it and the judgement of all; the pair is judged by 7, 8 and 9 in this order
+module _ (l : List ℕ) (n i v : ℕ) (before : List Entry) (all : Judged) (h : i + 1 < n) (k : n ≤ length l)
+    (so : judgedBy (before ++ pairs (drop i (take n l))) (faulty before v (pairs (drop i (take n l)))) ≡ all) where
+  pub not-a-channel : 15 < getD l i 0 → refused 7 ≡ all
   unfolding faulty
-  not-a-channel a = rw a at so
+  not-a-channel a = rw (pairs-next l n i h k, lt-ltb 16 (getD l i 0 + 1) (omega arith)) at so
 
-  pub listed-twice : ltb 16 (e .channel) ≡ false → listed (e .channel) before ≡ true → refused 8 ≡ all
+  pub listed-twice : getD l i 0 ≤ 15 → listed (getD l i 0 + 1) before ≡ true → refused 8 ≡ all
   unfolding faulty
-  listed-twice a b = rw (a, b) at so
+  listed-twice a b = rw (pairs-next l n i h k, le-ltb 16 (getD l i 0 + 1) (omega arith), b) at so
 
-  pub value-falls : ltb 16 (e .channel) ≡ false → listed (e .channel) before ≡ false → ltb (e .value) v ≡ true → refused 9 ≡ all
-  unfolding faulty
-  value-falls a b c = rw (a, b, c) at so
+  module _ (a : getD l i 0 ≤ 15) (b : listed (getD l i 0 + 1) before ≡ false) where
+    pub value-falls : getD l (i + 1) 0 < v → refused 9 ≡ all
+    unfolding faulty
+    value-falls c = rw (pairs-next l n i h k, le-ltb 16 (getD l i 0 + 1) (omega arith), b, lt-ltb (getD l (i + 1) 0) v c) at so
 
-  pub good-pair : ltb 16 (e .channel) ≡ false → listed (e .channel) before ≡ false → ltb (e .value) v ≡ false
-      → judgedBy ((before ++ (e ∷ [])) ++ l) (faulty (before ++ (e ∷ [])) (e .value) l) ≡ all
-  unfolding faulty
-  good-pair a b c = rw (append-assoc before (e ∷ []) l) (rw (a, b, c) at so)
+    pub good-pair : v ≤ getD l (i + 1) 0 → (after : List Entry) → after ≡ before ++ (entry (getD l i 0 + 1) (getD l (i + 1) 0) ∷ [])
+        → judgedBy (after ++ pairs (drop (i + 2) (take n l))) (faulty after (getD l (i + 1) 0) (pairs (drop (i + 2) (take n l)))) ≡ all
+    unfolding faulty
+    good-pair c after q =
+        rw (q, append-assoc)
+        (rw (pairs-next l n i h k, le-ltb 16 (getD l i 0 + 1) (omega arith), b, le-ltb (getD l (i + 1) 0) v c) at so)
 
 -- no pair is left
-pub no-pair : (before : List Entry) (v : ℕ) (all : Judged) → judgedBy (before ++ []) (faulty before v []) ≡ all → record { verdict = Accepted; table = tableOf before } ≡ all
+pub no-pair : (l : List ℕ) (n i v : ℕ) (t : Table) (all : Judged) → n ≤ i + 1 → t ≡ tableOf (entriesOf t)
+    → judgedBy (entriesOf t ++ pairs (drop i (take n l))) (faulty (entriesOf t) v (pairs (drop i (take n l)))) ≡ all → record { verdict = Accepted; table = t } ≡ all
 unfolding faulty
-no-pair before v all so = rw (append-nil before) at so
+no-pair l n i v t all h s so =
+    ap (λ (u : Table). record { verdict = Accepted; table = u }) s ∙ (rw (pairs-end l n i h, append-nil (entriesOf t)) at so)

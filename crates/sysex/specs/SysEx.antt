@@ -1,13 +1,12 @@
 -- Document 01, "MIP table, masks, shares" and "Numbers and what they leave": a SysEx is given as its data bytes, between F0 and F7.
 use Prim.Native.Nat.{ℕ, _+_, _%_}
-use mathlib.Core.Bool.{Bool, true, false, _&&_, _||_}
+use mathlib.Core.Bool.{Bool, _&&_, _||_}
 use mathlib.Core.List.{List, [], _∷_, _++_}
 use mathlib.Core.Option.{Option, some, none}
 use lib.ListN.{length, getD}
 use lib.Dec.{eqb, leb, ltb}
 use Rattle.loops.specs.Cases.{if_then_else_}
 use Rattle.table.specs.declared.Entry.{Entry}
-use Rattle.table.specs.declared.Table.{Table}
 use Rattle.table.specs.Table.{entry, tableOf, listed}
 use Rattle.sysex.specs.declared.Kind.{Kind}
 use Rattle.sysex.specs.declared.Kind.the-variants.{Mip, SystemOn, Other}

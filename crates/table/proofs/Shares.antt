@@ -1,6 +1,6 @@
 -- The shares of a table: they come to at most P, they are those of distinct channels, and a channel that has none is masked.
 -- Assumes nothing.
-use mathlib.Core.Path.{_≡_, refl, sym, ap, _∙_}
+use mathlib.Core.Path.{_≡_, refl, ap}
 use mathlib.Core.Bool.{Bool, true, false, not, _||_}
 use mathlib.Core.List.{List, [], _∷_}
 use Prim.Native.Nat.{ℕ, _+_, _-_, _≤_, _<_}
@@ -10,8 +10,7 @@ use borrow.Author.Tests.{leb-true, leb-false, le-leb, eq-eqb}
 use lib.Dec.{leb, eqb}
 use Rattle.loops.specs.Cases.{if_then_else_}
 use Rattle.table.specs.declared.Entry.{Entry}
-use Rattle.table.specs.declared.Share.{Share}
-use Rattle.table.specs.declared.Share.the-variants.{Masked, Units}
+use Rattle.table.specs.declared.Share.the-variants.{Units}
 use Rattle.table.specs.declared.Table.{Table}
 use Rattle.table.specs.Laws.{Rising, Distinct, Channels, sum}
 use Rattle.table.specs.Table.{entry, entriesOf, sharesFrom, shares, listed, lookup, shareOf, isMasked}

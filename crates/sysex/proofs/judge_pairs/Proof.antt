@@ -1,18 +1,16 @@
 -- `sysex::judge_pairs` meets its contract. Invariant: the table is that of its entries, two bytes for each, and the judgement of these entries and the pairs from i on
 -- is that of all pairs. The measure is the number of bytes left.
 -- Assumes nothing.
-use Prim.Native.Nat.{ℕ, _+_, _*_, _≤_, _<_, _-_}
-use mathlib.Core.Path.{_≡_, refl, sym, ap, _∙_}
-use mathlib.Core.List.{List, [], _∷_, _++_}
+use Prim.Native.Nat.{_+_, _*_, _≤_, _-_}
+use mathlib.Core.Path.{_≡_, sym, _∙_}
+use mathlib.Core.List.{_++_}
 use native.Mathlib.Omega.{arith}
 use borrow.Author.Needs.{needs}
-use borrow.Author.Tests.{lt-ltb, le-ltb}
-use lib.ListN.{length, take, drop, getD}
+use lib.ListN.{length, take, drop}
 use Rattle.splitter.proofs.Sizes.{bytes-37}
-use Rattle.table.specs.declared.Entry.{Entry}
-use Rattle.table.specs.Table.{entry, entriesOf, tableOf}
+use Rattle.table.specs.Table.{entriesOf, tableOf}
 use Rattle.sysex.specs.SysEx.{pairs, faulty, judgedBy, judgedPairs}
-use Rattle.sysex.proofs.Pairs.{pairs-next, pairs-end, no-entry, one-entry-more, not-a-channel, listed-twice, value-falls, good-pair, no-pair}
+use Rattle.sysex.proofs.Pairs.{no-entry, one-entry-more, not-a-channel, listed-twice, value-falls, good-pair, no-pair}
 use Rattle.sysex.proofs.judge_pairs.Statement.{statement}
 use Rattle.sysex.proofs.judge_pairs.Tie as tie
 
@@ -56,10 +54,8 @@ returns c =
     let b = c .before .before .before in
     let l = b .loop in
     let p = b .before .before .before .before .args .p in
-    let m = getD (p .bytes) (l .i) 0 in
-    let v = getD (p .bytes) (l .i + 1) 0 in
-    let so = rw (pairs-next (p .bytes) (p .count) (l .i) (omega arith) (omega arith)) at (l .inv .5) in
-    c .refuse .ensures ∙ not-a-channel (entriesOf (l .t)) (l .before) (entry (m + 1) v) _ _ so (lt-ltb 16 (m + 1) (omega arith))
+    c .refuse .ensures
+    ∙ not-a-channel (p .bytes) (p .count) (l .i) (l .before) (entriesOf (l .t)) _ (omega arith) (omega arith) (l .inv .5) (c .before .if1 .taken)
 
 add-lists : tie.Need-add-lists Inv-loop μ-loop
 add-lists c = search needs
@@ -75,10 +71,9 @@ returns-2 c =
     let b = c .before .before .before .before .before in
     let l = b .loop in
     let p = b .before .before .before .before .args .p in
-    let m = getD (p .bytes) (l .i) 0 in
-    let v = getD (p .bytes) (l .i + 1) 0 in
-    let so = rw (pairs-next (p .bytes) (p .count) (l .i) (omega arith) (omega arith)) at (l .inv .5) in
-    c .refuse2 .ensures ∙ listed-twice (entriesOf (l .t)) (l .before) (entry (m + 1) v) _ _ so (le-ltb 16 (m + 1) (omega arith)) (sym (c .before .before .lists .ensures) ∙ c .before .if2 .taken)
+    c .refuse2 .ensures
+    ∙ listed-twice (p .bytes) (p .count) (l .i) (l .before) (entriesOf (l .t)) _ (omega arith) (omega arith) (l .inv .5)
+    (c .before .before .before .if1 .left) (sym (c .before .before .lists .ensures) ∙ c .before .if2 .taken)
 
 refuse-requires-3 : tie.Need-refuse-requires-3 Inv-loop μ-loop
 refuse-requires-3 c κs = search needs
@@ -88,10 +83,9 @@ returns-3 c =
     let b = c .before .before .before .before .before .before in
     let l = b .loop in
     let p = b .before .before .before .before .args .p in
-    let m = getD (p .bytes) (l .i) 0 in
-    let v = getD (p .bytes) (l .i + 1) 0 in
-    let so = rw (pairs-next (p .bytes) (p .count) (l .i) (omega arith) (omega arith)) at (l .inv .5) in
-    c .refuse3 .ensures ∙ value-falls (entriesOf (l .t)) (l .before) (entry (m + 1) v) _ _ so (le-ltb 16 (m + 1) (omega arith)) (sym (c .before .before .before .lists .ensures) ∙ c .before .before .if2 .left) (lt-ltb v (l .before) (c .before .if3 .taken))
+    c .refuse3 .ensures
+    ∙ value-falls (p .bytes) (p .count) (l .i) (l .before) (entriesOf (l .t)) _ (omega arith) (omega arith) (l .inv .5)
+    (c .before .before .before .before .if1 .left) (sym (c .before .before .before .lists .ensures) ∙ c .before .before .if2 .left) (c .before .if3 .taken)
 
 add-t14 : tie.Need-add-t14 Inv-loop μ-loop
 add-t14 c = search needs
@@ -110,18 +104,16 @@ loop-again c =
     let b = c .before .before .before .before .before .before in
     let l = b .loop in
     let p = b .before .before .before .before .args .p in
-    let m = getD (p .bytes) (l .i) 0 in
-    let v = getD (p .bytes) (l .i + 1) 0 in
-    let so = rw (pairs-next (p .bytes) (p .count) (l .i) (omega arith) (omega arith)) at (l .inv .5) in
-    let u = one-entry-more (l .t) (c .push .result) (entry (m + 1) v) (l .inv .4) (omega arith) (c .push .ensures) in
-    let w = good-pair (entriesOf (l .t)) (l .before) (entry (m + 1) v) _ _ so (le-ltb 16 (m + 1) (omega arith)) (sym (c .before .before .before .lists .ensures) ∙ c .before .before .if2 .left) (le-ltb v (l .before) (c .before .if3 .left)) in
-    (omega arith, omega arith, l .inv .2, omega arith, u .2, rw (u .1) w)
+    let u = one-entry-more (l .t) (c .push .result) _ (l .inv .4) (omega arith) (c .push .ensures) in
+    let w = good-pair (p .bytes) (p .count) (l .i) (l .before) (entriesOf (l .t)) _ (omega arith) (omega arith) (l .inv .5)
+    (c .before .before .before .before .if1 .left) (sym (c .before .before .before .lists .ensures) ∙ c .before .before .if2 .left) (c .before .if3 .left) _ (u .1) in
+    (omega arith, omega arith, l .inv .2, omega arith, u .2, w)
 
 returns-4 : tie.Need-returns-4 Inv-loop μ-loop
 returns-4 c =
     let l = c .before .loop in
     let p = c .before .before .before .before .before .args .p in
-    rw (l .inv .4) (no-pair (entriesOf (l .t)) (l .before) _ (rw (pairs-end (p .bytes) (p .count) (l .i) (omega arith)) at (l .inv .5)))
+    no-pair (p .bytes) (p .count) (l .i) (l .before) (l .t) _ (omega arith) (l .inv .4) (l .inv .5)
 
 pub judge-pairs-spec : {M : Type 1} → statement M
 judge-pairs-spec =
