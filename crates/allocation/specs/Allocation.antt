@@ -3,7 +3,7 @@ use Prim.Native.Nat.{ℕ}
 use mathlib.Core.Bool.{Bool}
 use Rattle.loops.specs.Cases.{if_then_else_}
 use Rattle.table.specs.declared.Table.{Table}
-use Rattle.table.specs.Table.{shareOf, isMasked}
+use Rattle.shares.specs.Shares.{shareOf, isMasked}
 use Rattle.generators.specs.declared.Generators.{Generators}
 use Rattle.generators.specs.Generators.{assigned}
 use Rattle.changes.specs.declared.Change.the-variants.{ReleaseNote}

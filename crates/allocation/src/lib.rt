@@ -74,7 +74,7 @@ fn choose(s: Generators, t: Table, p: u8, channel: u8) -> Taken
 pub fn note_on(s: Generators, t: Table, p: u8, rhythm: bool, channel: u8, key: u8) -> Allocated
     ensures { λ r. ⌜ r ≡ noteOn s t p rhythm channel key ⌝ }
 {
-    if t.masks(p, channel) {
+    if shares::masks(t, p, channel) {
         return Allocated {
             taken: Taken::Refused(10),
             generators: s,

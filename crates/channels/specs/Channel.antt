@@ -1,10 +1,10 @@
 -- Document 01, "The device record" and "Other messages": the eleven numbers of a channel, and the messages that change them.
 use Prim.Native.Nat.{ℕ}
-use mathlib.Core.Bool.{Bool, _&&_, _||_}
+use mathlib.Core.Bool.{_&&_, _||_}
 use mathlib.Core.List.{List}
 use lib.ListN.{getD, set, replicate}
-use lib.Dec.{eqb, ltb}
-use Rattle.loops.specs.Cases.{if_then_else_}
+use lib.Dec.{eqb}
+use Rattle.loops.specs.Cases.{if_then_else_, atMost}
 use Rattle.channels.specs.declared.Channel.{Channel}
 
 -- "Every channel starts with 0, 0, 100, 64, 127, 0, 127, 127, 64, 0, 2"
@@ -172,7 +172,7 @@ withSensitivity c v =
 -- "6 with RPN 0/0 stores the sensitivity, 24 if above 24"
 unfoldable pub dataEntry : Channel → ℕ → Channel
 dataEntry c v =
-    if eqb (c .«rpn_msb») 0 && eqb (c .«rpn_lsb») 0 then withSensitivity c (if ltb 24 v then 24 else v) else c
+    if eqb (c .«rpn_msb») 0 && eqb (c .«rpn_lsb») 0 then withSensitivity c (atMost 24 v) else c
 
 -- "121, value 0: modulation 0, expression 127, hold 0, RPN 127/127, bend 64/0"
 unfoldable pub reset : Channel → Channel

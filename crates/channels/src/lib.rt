@@ -2,6 +2,7 @@
 // By value, for every value. Masks are no matter here: a masked channel's controllers are stored like any other's. Assumes nothing.
 ghost use mathlib.Core.Path.{_≡_};
 ghost use Rattle.channels.specs.Channel.{fresh, withProgram, withBend, dataEntry, reset, stored, controlled, freshChannels, channelAt, replaced};
+use loops::at_most;
 
 #[repr(C)]
 pub struct Channel {
@@ -83,11 +84,7 @@ impl Channel {
     {
         let mut c = self;
         if (self.rpn_msb == 0) & (self.rpn_lsb == 0) {
-            if Channel::SENSITIVITY_LIMIT < v {
-                c.sensitivity = Channel::SENSITIVITY_LIMIT;
-                return c;
-            }
-            c.sensitivity = v;
+            c.sensitivity = at_most(Channel::SENSITIVITY_LIMIT, v);
             return c;
         }
         c
@@ -151,11 +148,11 @@ impl Channel {
     pub fn control(self, n: u8, v: u8) -> Self
         ensures { λ r. ⌜ r ≡ controlled self n v ⌝ }
     {
-        let mut c = self;
         if n == 6 {
             return self.data_entry(v);
         }
         if (n == 98) | (n == 99) {
+            let mut c = self;
             c.rpn_msb = Channel::RPN;
             c.rpn_lsb = Channel::RPN;
             return c;

@@ -2,17 +2,17 @@
 -- stored nor overflows, and one that fills the parser is too long for every message that counts.
 -- Assumes nothing.
 use mathlib.Core.Path.{_≡_, refl, sym, ap, _∙_}
-use mathlib.Core.Bool.{Bool, true, false, _||_, not}
+use mathlib.Core.Bool.{Bool, true, false}
 use mathlib.Core.List.{List, [], _∷_, _++_, append-assoc, append-nil}
 use Prim.Native.Nat.{ℕ, zero, suc, _+_, _<_, _≤_}
 use native.Mathlib.Numerals.{add-one}
 use native.Mathlib.Omega.{arith}
-use borrow.Author.Tests.{ltb-true, ltb-false}
-use lib.Dec.{leb, ltb, eqb}
+use borrow.Author.Tests.{ltb-true, ltb-false, le-ltb, eqb-true}
+use lib.Dec.{leb, ltb}
 use lib.ListN.{length, take, set, length-append, length-set}
 use lib.Seq.{take-all, take-suc-set, take-append-le, length-take-le}
 use Rattle.loops.specs.Cases.{if_then_else_}
-use Rattle.splitter.specs.Split.{begun, stored, inSysEx, body, oneDataByte, takesData, completed, dataByte, opened, statusByte, split}
+use Rattle.splitter.specs.Split.{begun, stored, inSysEx, body, atLast, completed, dataByte, opened, statusByte, split}
 use Rattle.splitter.specs.declared.Parser.{Parser}
 use Rattle.splitter.specs.declared.Split.{Split}
 
@@ -51,12 +51,8 @@ after-split Q p b same more none =
     let R : Split → Type 0 = λ s. Q (s .parser) in
     let s = p .status in
     either R (ltb b 0x80)
-    (either R (inSysEx p) more
-    (either R (not (takesData s)) same
-    (either R (oneDataByte s || not (eqb (p .count) 0))
-    (either R (leb 0xF0 s) (none 0) (either R (oneDataByte s) (none s) (none s)))
-    more)))
-    (either R (leb 0xF8 b) same (either R (eqb b 0xF7) (none 0) (either Q (ltb b 0xF4) (none b) (none 0))))
+    (either R (ltb s 0x80) same (either R (atLast p) (either R (leb 0xF0 s) (none 0) (none s)) more))
+    (either R (leb 0xF8 b) same (none (if ltb b 0xF4 then b else 0)))
 
 pub bounded-split : (p : Parser) (b : ℕ) → Bounded p → Bounded (split p b .parser)
 bounded-split p b h = after-split Bounded p b h (bounded-stored p b h) bounded-begun
@@ -77,7 +73,9 @@ body-stored p b h =
 -- a data byte in an open SysEx is stored, and the SysEx stays open
 split-open : (p : Parser) (b : ℕ) → inSysEx p ≡ true → ltb b 0x80 ≡ true → split p b .parser ≡ stored p b
 unfolding split dataByte
-split-open p b o d = rw (d, o)
+split-open p b o d =
+    let s : p .status ≡ 0xF0 = eqb-true (p .status) 0xF0 o in
+    rw (d, le-ltb (p .status) 0x80 (omega arith), o)
 
 pub body-split : (p : Parser) (b : ℕ) → Bounded p → inSysEx p ≡ true → ltb b 0x80 ≡ true → body (split p b .parser) ≡ take 37 (body p ++ (b ∷ []))
 body-split p b h o d = ap body (split-open p b o d) ∙ body-stored p b h

@@ -2,7 +2,7 @@
 -- A parser holds the status byte in force (0: none), how many data bytes have come since, and these bytes; of a SysEx the first 37, counted to 37, since no message
 -- that counts is longer than 36.
 use Prim.Native.Nat.{ℕ, _+_}
-use mathlib.Core.Bool.{Bool, true, false, _&&_, _||_, not}
+use mathlib.Core.Bool.{Bool, _&&_, _||_, not}
 use mathlib.Core.List.{List}
 use mathlib.Core.Option.{Option, some, none}
 use lib.ListN.{getD, set, take, replicate}
@@ -39,39 +39,37 @@ body p = take (p .count) (p .bytes)
 unfoldable pub oneDataByte : ℕ → Bool
 oneDataByte s = leb 0xC0 s && ltb s 0xE0 || (eqb s 0xF1 || eqb s 0xF3)
 
--- the statuses that data bytes follow: 80 to EF, and F1, F2, F3
-unfoldable pub takesData : ℕ → Bool
-takesData s = leb 0x80 s && (ltb s 0xF4 && not (eqb s 0xF0))
+-- whether the next data byte is the last that the status in force takes; a SysEx takes any number of them
+abbrev pub atLast : Parser → Bool
+atLast p = not (inSysEx p) && (oneDataByte (p .status) || not (eqb (p .count) 0))
 
 -- the data byte that completes a message, or ends what F1 to F3 swallow; running status stays
 unfoldable pub completed : Parser → ℕ → Split
 completed p b =
+    let one = oneDataByte (p .status) in
     if leb 0xF0 (p .status) then record { parser = quiet; completed = Nothing } else
-    if oneDataByte (p .status) then record { parser = begun (p .status); completed = Message (p .status) b 0 } else
-    record { parser = begun (p .status); completed = Message (p .status) (getD (p .bytes) 0 0) b }
+    record { parser = begun (p .status); completed = Message (p .status) (if one then b else getD (p .bytes) 0 0) (if one then 0 else b) }
 
 -- a byte below 80; number 3: "data byte, no status or SysEx or swallowing"
 unfoldable pub dataByte : Parser → ℕ → Split
 dataByte p b =
-    if inSysEx p then record { parser = stored p b; completed = Nothing } else
-    if not (takesData (p .status)) then record { parser = p; completed = Stray } else
-    if oneDataByte (p .status) || not (eqb (p .count) 0) then completed p b else
+    if ltb (p .status) 0x80 then record { parser = p; completed = Stray } else
+    if atLast p then completed p b else
     record { parser = stored p b; completed = Nothing }
 
--- a status from 80 to F6 replaces what was in force: 80 to EF are the running status, F0 opens a SysEx, F1 to F3 swallow, F4 to F6 do nothing more
+-- a status from 80 to F7 replaces what was in force: 80 to EF are the running status, F0 opens a SysEx, F1 to F3 swallow, F4 to F7 leave none
 unfoldable pub opened : ℕ → Parser
-opened b = if ltb b 0xF4 then begun b else quiet
+opened b = begun (if ltb b 0xF4 then b else 0)
 
--- what a status completes: `how` where it ends a SysEx
-unfoldable pub ended : Parser → Completed → Completed
-ended p how = if inSysEx p then how else Nothing
+-- what status b completes where s was in force: F7 ends a SysEx; number 4: "SysEx cut by a status below F7"
+unfoldable pub ended : ℕ → ℕ → Completed
+ended s b = if eqb s 0xF0 then if eqb b 0xF7 then SysEx else Cut else Nothing
 
--- a byte from 80 on; "F8 to FF: no effect anywhere"; F7 ends a SysEx; number 4: "SysEx cut by a status below F7"
+-- a byte from 80 on; "F8 to FF: no effect anywhere"
 unfoldable pub statusByte : Parser → ℕ → Split
 statusByte p b =
     if leb 0xF8 b then record { parser = p; completed = Nothing } else
-    if eqb b 0xF7 then record { parser = quiet; completed = ended p SysEx } else
-    record { parser = opened b; completed = ended p Cut }
+    record { parser = opened b; completed = ended (p .status) b }
 
 -- a byte
 unfoldable pub split : Parser → ℕ → Split

@@ -1,7 +1,8 @@
 // What a byte means: a stream of MIDI bytes split into messages (document 01, "Bytes"), by value, for every parser value and every byte.
 // It knows neither the polyphony nor the own ID nor the table. Assumes nothing.
 ghost use mathlib.Core.Path.{_≡_};
-ghost use Rattle.splitter.specs.Split.{begun, quiet, stored, oneDataByte, takesData, completed, dataByte, opened, ended, statusByte, split};
+ghost use Rattle.splitter.specs.Split.{begun, quiet, stored, oneDataByte, completed, ended, statusByte, split};
+use loops::if_else;
 
 // Between two bytes: the status byte in force, 0 for none (F0 while a SysEx is open, F1 to F3 while data bytes are swallowed), the number of
 // data bytes since, and these bytes. Of a SysEx the first 37 are kept and counted: a longer one is as wrong at 37 as at any length.
@@ -53,14 +54,17 @@ impl Parser {
     fn store(self, b: u8) -> Self
         ensures { λ r. ⌜ r ≡ stored self b ⌝ }
     {
-        let mut next = self;
-        if self.count < 37 {
-            let at = self.count as usize;
-            next.bytes[at] = b;
-            next.count = self.count + 1;
-            return next;
+        let n = self.count;
+        if 37 <= n {
+            return self;
         }
-        next
+        let mut bytes = self.bytes;
+        bytes[n as usize] = b;
+        Parser {
+            status: self.status,
+            count: n + 1,
+            bytes: bytes,
+        }
     }
 
     // The byte that completes a message keeps the running status; after F1 to F3 there is none.
@@ -73,52 +77,16 @@ impl Parser {
                 completed: Completed::Nothing,
             };
         }
-        let next = Parser::begin(self.status);
-        if one_data_byte(self.status) {
-            return Split {
-                parser: next,
-                completed: Completed::Message(self.status, b, 0),
-            };
-        }
+        let one = one_data_byte(self.status);
         let bytes = self.bytes;
         Split {
-            parser: next,
-            completed: Completed::Message(self.status, bytes[0], b),
+            parser: Parser::begin(self.status),
+            completed: Completed::Message(
+                self.status,
+                if_else(one, b, bytes[0]),
+                if_else(one, 0, b),
+            ),
         }
-    }
-
-    fn take_data(self, b: u8) -> Split
-        ensures { λ r. ⌜ r ≡ dataByte self b ⌝ }
-    {
-        if self.status == 0xF0 {
-            return Split {
-                parser: self.store(b),
-                completed: Completed::Nothing,
-            };
-        }
-        if !takes_data(self.status) {
-            return Split {
-                parser: self,
-                completed: Completed::Stray,
-            };
-        }
-        if one_data_byte(self.status) | (self.count != 0) {
-            return self.complete(b);
-        }
-        Split {
-            parser: self.store(b),
-            completed: Completed::Nothing,
-        }
-    }
-
-    // What a status completes: `how` if a SysEx is open, else nothing.
-    fn ended(self, how: Completed) -> Completed
-        ensures { λ r. ⌜ r ≡ ended self how ⌝ }
-    {
-        if self.status != 0xF0 {
-            return Completed::Nothing;
-        }
-        how
     }
 
     fn take_status(self, b: u8) -> Split
@@ -131,15 +99,9 @@ impl Parser {
                 completed: Completed::Nothing,
             };
         }
-        if b == 0xF7 {
-            return Split {
-                parser: Parser::new(),
-                completed: self.ended(Completed::SysEx),
-            };
-        }
         Split {
-            parser: open(b),
-            completed: self.ended(Completed::Cut),
+            parser: Parser::begin(if_else(b < 0xF4, b, 0)),
+            completed: ended(self.status, b),
         }
     }
 
@@ -147,10 +109,21 @@ impl Parser {
     pub fn split(self, b: u8) -> Split
         ensures { λ r. ⌜ r ≡ split self b ⌝ }
     {
-        if b < 0x80 {
-            self.take_data(b)
-        } else {
-            self.take_status(b)
+        if 0x80 <= b {
+            return self.take_status(b);
+        }
+        if self.status < 0x80 {
+            return Split {
+                parser: self,
+                completed: Completed::Stray,
+            };
+        }
+        if (self.status != 0xF0) & (one_data_byte(self.status) | (self.count != 0)) {
+            return self.complete(b);
+        }
+        Split {
+            parser: self.store(b),
+            completed: Completed::Nothing,
         }
     }
 }
@@ -161,18 +134,15 @@ fn one_data_byte(s: u8) -> bool
     ((0xC0 <= s) & (s < 0xE0)) | ((s == 0xF1) | (s == 0xF3))
 }
 
-fn takes_data(s: u8) -> bool
-    ensures { λ r. ⌜ r ≡ takesData s ⌝ }
+// What status byte b completes where s was in force.
+fn ended(s: u8, b: u8) -> Completed
+    ensures { λ r. ⌜ r ≡ ended s b ⌝ }
 {
-    (0x80 <= s) & ((s < 0xF4) & (s != 0xF0))
-}
-
-fn open(b: u8) -> Parser
-    ensures { λ r. ⌜ r ≡ opened b ⌝ }
-{
-    if b < 0xF4 {
-        Parser::begin(b)
-    } else {
-        Parser::new()
+    if s != 0xF0 {
+        return Completed::Nothing;
     }
+    if b == 0xF7 {
+        return Completed::SysEx;
+    }
+    Completed::Cut
 }

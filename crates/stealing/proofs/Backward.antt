@@ -13,7 +13,8 @@ use lib.ListN.{length, take, getD}
 use lib.Seq.{take-suc}
 use Rattle.loops.specs.Cases.{if_then_else_}
 use Rattle.table.specs.declared.Entry.{Entry}
-use Rattle.table.specs.Table.{entry, sharesFrom}
+use Rattle.table.specs.Table.{entry}
+use Rattle.shares.specs.Shares.{sharesFrom}
 use Rattle.stealing.specs.Stealing.{orElse, overShare}
 
 abbrev none-entry : Entry

@@ -6,7 +6,7 @@ use lib.Dec.{eqb, ltb}
 use Rattle.loops.specs.Cases.{if_then_else_, bit}
 use Rattle.table.specs.declared.Entry.{Entry}
 use Rattle.table.specs.declared.Table.{Table}
-use Rattle.table.specs.Table.{shares}
+use Rattle.shares.specs.Shares.{shares}
 use Rattle.generators.specs.declared.Generators.{Generators}
 use Rattle.choice.specs.Choice.{busyCount}
 use Rattle.stealing.specs.declared.Loser.{Loser}

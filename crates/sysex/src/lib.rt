@@ -4,7 +4,7 @@ ghost use mathlib.Core.Path.{_≡_};
 ghost use Prim.Native.Nat.{_≤_};
 ghost use lib.ListN.{drop};
 ghost use Rattle.splitter.specs.Split.{body};
-ghost use Rattle.sysex.specs.SysEx.{kindOf, pairs, refused, judgedPairs, judged};
+ghost use Rattle.sysex.specs.SysEx.{startsWith, kindOf, pairs, refused, judgedPairs, judged};
 use splitter::Parser;
 use table::Entry;
 use table::Table;
@@ -37,15 +37,23 @@ pub struct Judged {
 pub fn kind_of(p: Parser, id: u8) -> Kind
     ensures { λ r. ⌜ r ≡ kindOf id (body p) ⌝ }
 {
-    let b = p.bytes;
-    let us = (b[1] == 0x7F) | (b[1] == id);
-    if (4 <= p.count) & ((b[0] == 0x7F) & (us & ((b[2] == 0x0B) & (b[3] == 0x01)))) {
+    let n = p.count;
+    let l = p.bytes;
+    if (4 <= n) & starts_with(id, 0x7F, 0x0B, 0x01, l) {
         return Kind::Mip;
     }
-    if (p.count == 4) & ((b[0] == 0x7E) & (us & ((b[2] == 0x09) & (b[3] == 0x01)))) {
+    if (n == 4) & starts_with(id, 0x7E, 0x09, 0x01, l) {
         return Kind::SystemOn;
     }
     Kind::Other
+}
+
+// Whether the bytes l are first a, then 7F or the own ID, then b and c.
+fn starts_with(id: u8, a: u8, b: u8, c: u8, l: [u8; 37]) -> bool
+    ensures { λ r. ⌜ r ≡ startsWith id a b c l ⌝ }
+{
+    let d = l[1];
+    (l[0] == a) & (((d == 0x7F) | (d == id)) & ((l[2] == b) & (l[3] == c)))
 }
 
 fn refuse(number: u8) -> Judged
@@ -73,14 +81,15 @@ fn judge_pairs(p: Parser) -> Judged
         if 15 < m {
             return refuse(7);
         }
-        if t.lists(m + 1) {
+        let c = m + 1;
+        if t.lists(c) {
             return refuse(8);
         }
         if v < before {
             return refuse(9);
         }
         let next = t.push(Entry {
-            channel: m + 1,
+            channel: c,
             value: v,
         });
         t = next;

@@ -1,5 +1,6 @@
 -- What holds of a table that a MIP message gave, and of every starting table: the words of the laws in proofs/.
-use Prim.Native.Nat.{ℕ, _+_, _≤_}
+-- Assumes nothing.
+use Prim.Native.Nat.{ℕ, _≤_}
 use mathlib.Core.Path.{_≡_}
 use mathlib.Core.Bool.{false}
 use mathlib.Core.List.{List, [], _∷_}
@@ -28,8 +29,3 @@ pub record WellFormed (l : List Entry) : Type 0 where
   pub rising : Rising 0 l
   pub distinct : Distinct l
   pub channels : Channels l
-
--- the sum of the values, or of the shares where the list is one of shares
-abbrev pub sum : List Entry → ℕ
-sum [] = 0
-sum (e ∷ l) = e .value + sum l

@@ -1,3 +1,4 @@
--- The MIP table: who may play, and how much.
+-- The MIP table, and what holds of those that the device makes.
+-- Assumes nothing.
 pub mod Table
 pub mod Laws

@@ -1,9 +1,8 @@
-// The MIP table: which channels may play, and how many notes each is sure of (document 01, "MIP table, masks, shares").
+// The MIP table: channels by falling priority (document 01, "MIP table, masks, shares"). Who may play by it, and how much, is in crate shares.
 // By value, for every table value and every P. Assumes nothing.
 ghost use mathlib.Core.Path.{_≡_};
-ghost use Prim.Native.Nat.{_-_};
 ghost use mathlib.Core.List.{[]};
-ghost use Rattle.table.specs.Table.{tableOf, entriesOf, startTable, shareOf, isMasked, isChannel, maskQuery, shareQuery, listed, pushed};
+ghost use Rattle.table.specs.Table.{tableOf, entriesOf, startTable, listed, pushed};
 use loops::at_most;
 
 // A channel, 1 to 16, and the polyphony needed by it and all listed before it.
@@ -18,32 +17,6 @@ pub struct Entry {
 pub struct Table {
     pub count: u8,
     pub entries: [Entry; 16],
-}
-
-// What a channel is sure of.
-pub enum Share {
-    // It is unlisted, or its value is above P: it may not play.
-    Masked,
-    // It is unmasked, with this share.
-    Units(u8),
-}
-
-// The answer to a query of a mask.
-pub enum MaskAnswer {
-    // The channel is masked.
-    IsMasked,
-    // The channel is unmasked.
-    IsUnmasked,
-    // Number 14: the channel is not 1 to 16.
-    NoSuchChannel,
-}
-
-// The answer to a query of a share.
-pub enum ShareAnswer {
-    // The channel's share, 0 if it is masked.
-    ShareIs(u8),
-    // Number 14: the channel is not 1 to 16.
-    NotAChannel,
 }
 
 // What stands after a table's entries.
@@ -84,24 +57,18 @@ impl Table {
         }
     }
 
-    // One entry more, of the lowest priority. Whatever stands after the old ones is left behind.
+    // One entry more, of the lowest priority; a full table stays as it is.
     pub fn push(self, e: Entry) -> Self
         ensures { λ r. ⌜ r ≡ pushed self e ⌝ }
     {
-        if 16 <= self.count {
+        let n = self.count;
+        if 16 <= n {
             return self;
         }
-        let at = self.count as usize;
-        let old = self.entries;
-        let mut entries = [BLANK; 16];
-        let mut i: usize = 0;
-        while i < at {
-            entries[i] = old[i];
-            i += 1;
-        }
-        entries[at] = e;
+        let mut entries = self.entries;
+        entries[n as usize] = e;
         Table {
-            count: self.count + 1,
+            count: n + 1,
             entries: entries,
         }
     }
@@ -121,68 +88,4 @@ impl Table {
         }
         false
     }
-
-    // The share of channel c among P generators.
-    pub fn share(self, p: u8, c: u8) -> Share
-        ensures { λ r. ⌜ r ≡ shareOf self p c ⌝ }
-    {
-        let entries = self.entries;
-        let n = at_most(16, self.count) as usize;
-        let mut before: u8 = 0;
-        let mut i: usize = 0;
-        while i < n {
-            let e = entries[i];
-            if (e.value <= p) & (c == e.channel) {
-                return Share::Units(less(e.value, before));
-            }
-            before = e.value;
-            i += 1;
-        }
-        Share::Masked
-    }
-
-    pub fn masks(self, p: u8, c: u8) -> bool
-        ensures { λ r. ⌜ r ≡ isMasked (shareOf self p c) ⌝ }
-    {
-        match self.share(p, c) {
-            Share::Masked => true,
-            Share::Units(_) => false,
-        }
-    }
-
-    pub fn mask_query(self, p: u8, c: u8) -> MaskAnswer
-        ensures { λ r. ⌜ r ≡ maskQuery self p c ⌝ }
-    {
-        if is_channel(c) {
-            return match self.share(p, c) {
-                Share::Masked => MaskAnswer::IsMasked,
-                Share::Units(_) => MaskAnswer::IsUnmasked,
-            };
-        }
-        MaskAnswer::NoSuchChannel
-    }
-
-    pub fn share_query(self, p: u8, c: u8) -> ShareAnswer
-        ensures { λ r. ⌜ r ≡ shareQuery self p c ⌝ }
-    {
-        if is_channel(c) {
-            return match self.share(p, c) {
-                Share::Masked => ShareAnswer::ShareIs(0),
-                Share::Units(n) => ShareAnswer::ShareIs(n),
-            };
-        }
-        ShareAnswer::NotAChannel
-    }
-}
-
-fn less(a: u8, b: u8) -> u8
-    ensures { λ r. ⌜ r ≡ a - b ⌝ }
-{
-    if b <= a { a - b } else { 0 }
-}
-
-fn is_channel(c: u8) -> bool
-    ensures { λ r. ⌜ r ≡ isChannel c ⌝ }
-{
-    (1 <= c) & (c <= 16)
 }

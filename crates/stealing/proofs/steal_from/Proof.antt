@@ -5,7 +5,7 @@ use mathlib.Core.Path.{_≡_, refl, sym, ap, _∙_}
 use native.Mathlib.Omega.{arith}
 use lib.ListN.{length, take}
 use Rattle.loops.proofs.Padded.{take-at-most}
-use Rattle.table.specs.Table.{sharesFrom}
+use Rattle.shares.specs.Shares.{sharesFrom}
 use Rattle.table.proofs.Sizes.{entries-16}
 use Rattle.stealing.specs.Stealing.{counted, overShare, toLoser, stealFrom}
 use Rattle.stealing.proofs.Backward.{over-yes, over-no}

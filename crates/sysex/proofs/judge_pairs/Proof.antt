@@ -22,7 +22,7 @@ abbrev μ-loop : tie.MeasureT-loop
 μ-loop bytes n t₀ before₀ i₀ t before i = n - i
 
 cast-n : tie.Need-cast-n Inv-loop μ-loop
-cast-n c = search needs
+cast-n c = omega arith
 
 empty-requires : tie.Need-empty-requires Inv-loop μ-loop
 empty-requires c κs = search needs
@@ -35,16 +35,16 @@ loop-holds c =
     (s .pre, omega arith, bytes-37 p (s .good .0), omega arith, e .1, e .2)
 
 add-loop : tie.Need-add-loop Inv-loop μ-loop
-add-loop c = search needs
+add-loop c = omega arith
 
 array-read-m : tie.Need-array-read-m Inv-loop μ-loop
-array-read-m c = search needs
+array-read-m c = omega arith
 
 add-v : tie.Need-add-v Inv-loop μ-loop
-add-v c = search needs
+add-v c = omega arith
 
 array-read-v : tie.Need-array-read-v Inv-loop μ-loop
-array-read-v c = search needs
+array-read-v c = omega arith
 
 refuse-requires : tie.Need-refuse-requires Inv-loop μ-loop
 refuse-requires c κs = search needs
@@ -57,8 +57,8 @@ returns c =
     c .refuse .ensures
     ∙ not-a-channel (p .bytes) (p .count) (l .i) (l .before) (entriesOf (l .t)) _ (omega arith) (omega arith) (l .inv .5) (c .before .if1 .taken)
 
-add-lists : tie.Need-add-lists Inv-loop μ-loop
-add-lists c = search needs
+add-c : tie.Need-add-c Inv-loop μ-loop
+add-c c = omega arith
 
 lists-requires : tie.Need-lists-requires Inv-loop μ-loop
 lists-requires c κs = search needs
@@ -87,17 +87,14 @@ returns-3 c =
     ∙ value-falls (p .bytes) (p .count) (l .i) (l .before) (entriesOf (l .t)) _ (omega arith) (omega arith) (l .inv .5)
     (c .before .before .before .before .if1 .left) (sym (c .before .before .before .lists .ensures) ∙ c .before .before .if2 .left) (c .before .if3 .taken)
 
-add-t14 : tie.Need-add-t14 Inv-loop μ-loop
-add-t14 c = search needs
-
 push-requires : tie.Need-push-requires Inv-loop μ-loop
 push-requires c κs = search needs
 
 add-i : tie.Need-add-i Inv-loop μ-loop
-add-i c = search needs
+add-i c = omega arith
 
 loop-less : tie.Need-loop-less Inv-loop μ-loop
-loop-less c = search needs
+loop-less c = omega arith
 
 loop-again : tie.Need-loop-again Inv-loop μ-loop
 loop-again c =
@@ -130,13 +127,12 @@ judge-pairs-spec =
     array-read-v
     refuse-requires
     returns
-    add-lists
+    add-c
     lists-requires
     refuse-requires-2
     returns-2
     refuse-requires-3
     returns-3
-    add-t14
     push-requires
     add-i
     loop-less

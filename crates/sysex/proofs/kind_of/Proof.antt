@@ -8,65 +8,42 @@ use Rattle.sysex.proofs.Head.{mip-head, system-on-head}
 use Rattle.sysex.proofs.kind_of.Statement.{statement}
 use Rattle.sysex.proofs.kind_of.Tie as tie
 
-array-read-us : tie.Need-array-read-us
-array-read-us c = search needs
-
-array-read-us-2 : tie.Need-array-read-us-2
-array-read-us-2 c = search needs
-
-array-read-if1 : tie.Need-array-read-if1
-array-read-if1 c = search needs
-
-array-read-if1-2 : tie.Need-array-read-if1-2
-array-read-if1-2 c = search needs
-
-array-read-if1-3 : tie.Need-array-read-if1-3
-array-read-if1-3 c = search needs
+starts-with-requires : tie.Need-starts-with-requires
+starts-with-requires c κs = search needs
 
 returns : tie.Need-returns
 unfolding kindOf
 returns c =
     let s = c .before .before .before in
     let size = bytes-37 (s .args .p) (s .good .0) in
-    simp (mip-head (s .args .id) (s .args .p .count) (s .args .p .bytes) size ∙ c .if1 .taken)
+    simp (mip-head (s .args .id) (s .args .p .count) (s .args .p .bytes) size ∙ (rw (c .before .starts-with .ensures) at (c .if1 .taken)))
 
-array-read-if2 : tie.Need-array-read-if2
-array-read-if2 c = search needs
-
-array-read-if2-2 : tie.Need-array-read-if2-2
-array-read-if2-2 c = search needs
-
-array-read-if2-3 : tie.Need-array-read-if2-3
-array-read-if2-3 c = search needs
+starts-with-requires-2 : tie.Need-starts-with-requires-2
+starts-with-requires-2 c κs = search needs
 
 returns-2 : tie.Need-returns-2
 unfolding kindOf
 returns-2 c =
-    let s = c .before .before .before .before .before in
+    let b = c .before .before in
+    let s = b .before .before .before in
     let size = bytes-37 (s .args .p) (s .good .0) in
-    simp
-    (mip-head (s .args .id) (s .args .p .count) (s .args .p .bytes) size ∙ c .before .before .if1 .left, system-on-head (s .args .id) (s .args .p .count) (s .args .p .bytes) size ∙ c .if2 .taken)
+    simp (
+      mip-head (s .args .id) (s .args .p .count) (s .args .p .bytes) size ∙ (rw (b .before .starts-with .ensures) at (b .if1 .left)),
+      system-on-head (s .args .id) (s .args .p .count) (s .args .p .bytes) size ∙ (rw (c .before .starts-with2 .ensures) at (c .if2 .taken)),
+    )
 
 returns-3 : tie.Need-returns-3
 unfolding kindOf
 returns-3 c =
-    let s = c .before .before .before .before .before in
+    let b = c .before .before in
+    let s = b .before .before .before in
     let size = bytes-37 (s .args .p) (s .good .0) in
-    simp
-    (mip-head (s .args .id) (s .args .p .count) (s .args .p .bytes) size ∙ c .before .before .if1 .left, system-on-head (s .args .id) (s .args .p .count) (s .args .p .bytes) size ∙ c .if2 .left)
+    simp (
+      mip-head (s .args .id) (s .args .p .count) (s .args .p .bytes) size ∙ (rw (b .before .starts-with .ensures) at (b .if1 .left)),
+      system-on-head (s .args .id) (s .args .p .count) (s .args .p .bytes) size ∙ (rw (c .before .starts-with2 .ensures) at (c .if2 .left)),
+    )
 
 pub kind-of-spec : {M : Type 1} → statement M
 kind-of-spec =
     tie.close
-    (tie.spec
-    array-read-us
-    array-read-us-2
-    array-read-if1
-    array-read-if1-2
-    array-read-if1-3
-    returns
-    array-read-if2
-    array-read-if2-2
-    array-read-if2-3
-    returns-2
-    returns-3)
+    (tie.spec starts-with-requires returns starts-with-requires-2 returns-2 returns-3)

@@ -1,21 +1,20 @@
--- `channels::Channel::data_entry` meets its contract: the tests for RPN 0/0 and for a value above 24 are the definition's.
+-- `channels::Channel::data_entry` meets its contract: the test for RPN 0/0 is the definition's, and `at_most` is its limit of 24.
 -- Assumes nothing.
-use borrow.Author.Tests.{lt-ltb, le-ltb}
+use borrow.Author.Needs.{needs}
 use Rattle.channels.specs.Channel.{dataEntry}
 use Rattle.channels.proofs.Channel.data_entry.Statement.{statement}
 use Rattle.channels.proofs.Channel.data_entry.Tie as tie
 
+at-most-requires : tie.Need-at-most-requires
+at-most-requires c κs = search needs
+
 returns : tie.Need-returns
 unfolding dataEntry
-returns c = simp (c .before .if1 .taken, lt-ltb _ _ (c .if2 .taken))
+returns c = simp (c .before .if1 .taken, c .at-most .ensures .0)
 
 returns-2 : tie.Need-returns-2
 unfolding dataEntry
-returns-2 c = simp (c .before .if1 .taken, le-ltb _ _ (c .if2 .left))
-
-returns-3 : tie.Need-returns-3
-unfolding dataEntry
-returns-3 c = simp (c .if1 .left)
+returns-2 c = simp (c .if1 .left)
 
 pub data-entry-spec : {M : Type 1} → statement M
-data-entry-spec = tie.close (tie.spec returns returns-2 returns-3)
+data-entry-spec = tie.close (tie.spec at-most-requires returns returns-2)

@@ -4,7 +4,6 @@ use Prim.Native.Nat.{ℕ, _≤_, _-_}
 use mathlib.Core.Path.{_≡_, refl, sym, ap}
 use mathlib.Core.List.{List, map}
 use native.Mathlib.Omega.{arith}
-use borrow.Author.Needs.{needs}
 use lib.ListN.{length, take, length-set, List·getD-map}
 use Rattle.loops.specs.Passes.{padded}
 use Rattle.table.specs.declared.Entry.{Entry}
@@ -27,19 +26,19 @@ unfolding padded
 loop-holds c = (omega arith, refl, refl)
 
 array-read-t9 : tie.Need-array-read-t9 Inv-loop μ-loop
-array-read-t9 c = search needs
+array-read-t9 c = omega arith
 
 mul-entries : tie.Need-mul-entries Inv-loop μ-loop
-mul-entries c = search needs
+mul-entries c = omega arith
 
 array-set-from-entries : tie.Need-array-set-from-entries Inv-loop μ-loop
-array-set-from-entries c = search needs
+array-set-from-entries c = omega arith
 
 add-i : tie.Need-add-i Inv-loop μ-loop
-add-i c = search needs
+add-i c = omega arith
 
 loop-less : tie.Need-loop-less Inv-loop μ-loop
-loop-less c = search needs
+loop-less c = omega arith
 
 loop-again : tie.Need-loop-again Inv-loop μ-loop
 loop-again c =

@@ -1,0 +1,16 @@
+-- `device::new_table` meets its contract: the table, and the generators under it.
+-- Assumes nothing.
+use Rattle.device.specs.Device.{newTable}
+use borrow.Author.Needs.{needs}
+use Rattle.device.proofs.new_table.Statement.{statement}
+use Rattle.device.proofs.new_table.Tie as tie
+
+mask-requires : tie.Need-mask-requires
+mask-requires c κs = search needs
+
+returns : tie.Need-returns
+unfolding newTable
+returns c = simp (c .mask .ensures)
+
+pub new-table-spec : {M : Type 1} → statement M
+new-table-spec = tie.close (tie.spec mask-requires returns)

@@ -1,0 +1,80 @@
+-- `device::take` meets its contract: each thing that a byte completes has its clause of the definition.
+-- Assumes nothing.
+use Rattle.device.specs.Device.{heard}
+use borrow.Author.Needs.{needs}
+use Rattle.device.proofs.take.Statement.{statement}
+use Rattle.device.proofs.take.Tie as tie
+
+enum-told : tie.Need-enum-told
+enum-told c = search needs
+
+reply-requires : tie.Need-reply-requires
+reply-requires c κs = search needs
+
+enum-told-2 : tie.Need-enum-told-2
+enum-told-2 c = search needs
+
+reply-requires-2 : tie.Need-reply-requires-2
+reply-requires-2 c κs = search needs
+
+enum-told-3 : tie.Need-enum-told-3
+enum-told-3 c = search needs
+
+reply-requires-3 : tie.Need-reply-requires-3
+reply-requires-3 c κs = search needs
+
+enum-known-c : tie.Need-enum-known-c
+enum-known-c c = search needs
+
+read-requires : tie.Need-read-requires
+read-requires c κs = search needs
+
+play-requires : tie.Need-play-requires
+play-requires c κs = search needs
+
+enum-told-4 : tie.Need-enum-told-4
+enum-told-4 c = search needs
+
+take-sysex-requires : tie.Need-take-sysex-requires
+take-sysex-requires c κs = search needs
+
+returns : tie.Need-returns
+unfolding heard
+returns c = simp (c .before .enum-told .given .1, c .reply .ensures)
+
+returns-2 : tie.Need-returns-2
+unfolding heard
+returns-2 c = simp (c .before .enum-told2 .given .1, c .reply2 .ensures)
+
+returns-3 : tie.Need-returns-3
+unfolding heard
+returns-3 c = simp (c .before .enum-told3 .given .1, c .reply3 .ensures)
+
+returns-4 : tie.Need-returns-4
+unfolding heard
+returns-4 c = simp (c .before .before .before .c .given .1, c .play .ensures, c .before .read .ensures)
+
+returns-5 : tie.Need-returns-5
+unfolding heard
+returns-5 c = simp (c .before .enum-told4 .given .1, c .take-sysex .ensures)
+
+pub take-spec : {M : Type 1} → statement M
+take-spec =
+    tie.close
+    (tie.spec
+    enum-told
+    reply-requires
+    enum-told-2
+    reply-requires-2
+    enum-told-3
+    reply-requires-3
+    enum-known-c
+    read-requires
+    play-requires
+    enum-told-4
+    take-sysex-requires
+    returns
+    returns-2
+    returns-3
+    returns-4
+    returns-5)

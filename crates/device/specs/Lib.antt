@@ -1,0 +1,2 @@
+-- The device: start, bytes, queries.
+pub mod Device

@@ -1,0 +1,182 @@
+// The device (document 01): its start, its bytes and the queries, by value, for every value of the record. The report of an ended generator is not here yet: it
+// lands together with the proof of demand 3. Assumes nothing.
+ghost use mathlib.Core.Path.{_≡_};
+ghost use Rattle.splitter.specs.Split.{body};
+ghost use Rattle.device.specs.Device.{freshOutput, started, newTable, replied, mipTaken, exclusive, heard, byteTaken, generatorQuery, deviceMask, deviceShare};
+use instrument::Instrument;
+use playing::Answer;
+use playing::Reply;
+use shares::MaskAnswer;
+use shares::ShareAnswer;
+use splitter::Completed;
+use splitter::Parser;
+use sysex::Kind;
+use sysex::Verdict;
+use table::Table;
+
+// The device record.
+#[repr(C)]
+pub struct Device {
+    pub parser: Parser,
+    pub instrument: Instrument,
+}
+
+// An answer, and the record after it.
+pub struct Output {
+    pub answer: Answer,
+    pub device: Device,
+}
+
+// The answer to a query of a generator.
+pub enum GeneratorAnswer {
+    // Its state, its channel and its key.
+    GeneratorIs(u8, u8, u8),
+    // Number 12: there is no generator of that number.
+    NoGenerator,
+}
+
+fn fresh_output(answer: Answer, polyphony: u8, id: u8) -> Output
+    ensures { λ r. ⌜ r ≡ freshOutput answer polyphony id ⌝ }
+{
+    let parser = Parser::new();
+    let i = Instrument::fresh(polyphony, id);
+    let d = Device {
+        parser: parser,
+        instrument: i,
+    };
+    Output {
+        answer: answer,
+        device: d,
+    }
+}
+
+// A refused start leaves a working device with one generator and own ID 0.
+pub fn start(polyphony: u8, id: u8) -> Output
+    ensures { λ r. ⌜ r ≡ started polyphony id ⌝ }
+{
+    if (polyphony < 1) | (64 < polyphony) {
+        return fresh_output(Answer::Number(1), 1, 0);
+    }
+    if 126 < id {
+        return fresh_output(Answer::Number(2), 1, 0);
+    }
+    fresh_output(Answer::Done, polyphony, id)
+}
+
+// An accepted MIP message: its table replaces the old one, and newly masked channels give way.
+fn new_table(i: Instrument, t: Table) -> Instrument
+    ensures { λ r. ⌜ r ≡ newTable i t ⌝ }
+{
+    let old = i.table;
+    let s = i.generators;
+    let after = masking::mask(s, i.polyphony, old, t);
+    let mut next = i;
+    next.table = t;
+    next.generators = after;
+    next
+}
+
+fn reply(answer: Answer, i: Instrument) -> Reply
+    ensures { λ r. ⌜ r ≡ replied answer i ⌝ }
+{
+    Reply {
+        answer: answer,
+        instrument: i,
+    }
+}
+
+fn mip(i: Instrument, p: Parser) -> Reply
+    ensures { λ r. ⌜ r ≡ mipTaken i (body p) ⌝ }
+{
+    let j = sysex::judge(p);
+    let t = j.table;
+    let v = j.verdict;
+    match v {
+        Verdict::Accepted => reply(Answer::Done, new_table(i, t)),
+        Verdict::Refused(n) => reply(Answer::Number(n), i),
+    }
+}
+
+// An ended SysEx, whose data bytes are those of parser p.
+fn take_sysex(i: Instrument, p: Parser) -> Reply
+    ensures { λ r. ⌜ r ≡ exclusive i (body p) ⌝ }
+{
+    let k = sysex::kind_of(p, i.id);
+    match k {
+        Kind::Mip => mip(i, p),
+        Kind::SystemOn => reply(Answer::Done, Instrument::fresh(i.polyphony, i.id)),
+        Kind::Other => reply(Answer::Nothing, i),
+    }
+}
+
+// What a byte completed, with parser p as the byte found it.
+fn take(i: Instrument, p: Parser, c: Completed) -> Reply
+    ensures { λ r. ⌜ r ≡ heard i p c ⌝ }
+{
+    match c {
+        Completed::Nothing => reply(Answer::Nothing, i),
+        Completed::Stray => reply(Answer::Number(3), i),
+        Completed::Cut => reply(Answer::Number(4), i),
+        Completed::Message(s, a, b) => playing::play(i, message::read(s, a, b)),
+        Completed::SysEx => take_sysex(i, p),
+    }
+}
+
+// A MIDI byte.
+pub fn byte(d: Device, b: u8) -> Output
+    ensures { λ r. ⌜ r ≡ byteTaken d b ⌝ }
+{
+    let p = d.parser;
+    let i = d.instrument;
+    let s = p.split(b);
+    let c = s.completed;
+    let next = s.parser;
+    let r = take(i, p, c);
+    let after = r.instrument;
+    let answer = r.answer;
+    let device = Device {
+        parser: next,
+        instrument: after,
+    };
+    Output {
+        answer: answer,
+        device: device,
+    }
+}
+
+// The state, channel and key of generator g.
+pub fn generator_query(d: Device, g: u8) -> GeneratorAnswer
+    ensures { λ r. ⌜ r ≡ generatorQuery d g ⌝ }
+{
+    let i = d.instrument;
+    if i.polyphony <= g {
+        return GeneratorAnswer::NoGenerator;
+    }
+    let s = i.generators;
+    let state = s.state;
+    let channel = s.channel;
+    let key = s.key;
+    GeneratorAnswer::GeneratorIs(
+        loops::element(state, g),
+        loops::element(channel, g),
+        loops::element(key, g),
+    )
+}
+
+// Whether channel c is masked.
+pub fn mask_query(d: Device, c: u8) -> MaskAnswer
+    ensures { λ r. ⌜ r ≡ deviceMask d c ⌝ }
+{
+    let i = d.instrument;
+    let t = i.table;
+    shares::mask_query(t, i.polyphony, c)
+}
+
+// The share of channel c, 0 if it is masked.
+pub fn share_query(d: Device, c: u8) -> ShareAnswer
+    ensures { λ r. ⌜ r ≡ deviceShare d c ⌝ }
+{
+    let i = d.instrument;
+    let t = i.table;
+    shares::share_query(t, i.polyphony, c)
+}

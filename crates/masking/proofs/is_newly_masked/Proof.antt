@@ -1,0 +1,17 @@
+-- `masking::is_newly_masked` meets its contract, by the two tables.
+-- Assumes nothing.
+use borrow.Author.Needs.{needs}
+use Rattle.masking.proofs.is_newly_masked.Statement.{statement}
+use Rattle.masking.proofs.is_newly_masked.Tie as tie
+
+masks-requires : tie.Need-masks-requires
+masks-requires c κs = search needs
+
+masks-requires-2 : tie.Need-masks-requires-2
+masks-requires-2 c κs = search needs
+
+returns : tie.Need-returns
+returns c = simp (c .masks2 .ensures, c .before .masks .ensures)
+
+pub is-newly-masked-spec : {M : Type 1} → statement M
+is-newly-masked-spec = tie.close (tie.spec masks-requires masks-requires-2 returns)

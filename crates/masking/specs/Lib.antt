@@ -1,0 +1,2 @@
+-- What a new table does to notes.
+pub mod Masking

@@ -1,0 +1,18 @@
+-- Document 01, "MIP table, masks, shares": "Busy generators of newly masked channels become releasing, pedal or not. No other channel's generator changes".
+use Prim.Native.Nat.{ℕ}
+use mathlib.Core.Bool.{Bool, _&&_, not}
+use Rattle.loops.specs.Cases.{if_then_else_}
+use Rattle.loops.specs.Passes.{upTo}
+use Rattle.table.specs.declared.Table.{Table}
+use Rattle.shares.specs.Shares.{shareOf, isMasked, isChannel}
+use Rattle.generators.specs.declared.Generators.{Generators}
+use Rattle.generators.specs.Generators.{Generator, at, isBusy}
+use Rattle.changes.specs.Changes.{withStates}
+
+abbrev pub isNewlyMasked : ℕ → Table → Table → ℕ → Bool
+isNewlyMasked p old new c = isChannel c && (not (isMasked (shareOf old p c)) && isMasked (shareOf new p c))
+
+unfoldable pub masked : ℕ → Table → Table → Generators → Generators
+masked p old new s =
+    withStates s
+    (upTo (λ g. if isBusy (at s g) && isNewlyMasked p old new (at s g .channel) then 3 else at s g .state) 64)

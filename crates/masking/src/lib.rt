@@ -1,0 +1,64 @@
+// What a new table does to notes: those of newly masked channels are released (document 01, "MIP table, masks, shares"), by value, for every value.
+// Assumes nothing.
+ghost use mathlib.Core.Path.{_≡_};
+ghost use mathlib.Core.Bool.{_&&_, not};
+ghost use lib.Dec.{eqb};
+ghost use lib.ListN.{getD};
+ghost use Rattle.loops.specs.Cases.{if_then_else_, bit};
+ghost use Rattle.loops.specs.Passes.{upTo};
+ghost use Rattle.generators.specs.Generators.{generator, isBusy};
+ghost use Rattle.masking.specs.Masking.{isNewlyMasked, masked};
+use generators::Generators;
+use table::Table;
+
+// Whether channel c plays by the old table and does not by the new one.
+fn is_newly_masked(p: u8, old: Table, new: Table, c: u8) -> bool
+    ensures { λ r. ⌜ r ≡ isNewlyMasked p old new c ⌝ }
+{
+    ((1 <= c) & (c <= 16)) & (!shares::masks(old, p, c) & shares::masks(new, p, c))
+}
+
+// A mark, 1, for each newly masked channel, by its number.
+fn marks(p: u8, old: Table, new: Table) -> [u8; 64]
+    ensures { λ r. ⌜ r ≡ upTo (λ c. bit (isNewlyMasked p old new c)) 64 ⌝ }
+{
+    let mut out = [0u8; 64];
+    let mut i: usize = 0;
+    while i < 64 {
+        out[i] = loops::one(is_newly_masked(p, old, new, i as u8));
+        i += 1;
+    }
+    out
+}
+
+fn is_busy(state: u8) -> bool
+    ensures { λ r. ⌜ r ≡ isBusy (generator state 0 0) ⌝ }
+{
+    (state == generators::HELD) | (state == generators::SUSTAINED)
+}
+
+// The states after the busy generators of marked channels were released.
+fn release(state: [u8; 64], channel: [u8; 64], marks: [u8; 64]) -> [u8; 64]
+    ensures { λ r. ⌜ r ≡ upTo (λ g. if isBusy (generator (getD state g 0) 0 0) && not (eqb (getD marks (getD channel g 0) 0) 0) then 3 else getD state g 0) 64 ⌝ }
+{
+    let mut out = state;
+    let mut i: usize = 0;
+    while i < 64 {
+        let gone = is_busy(state[i]) & (loops::element(marks, channel[i]) != 0);
+        out[i] = loops::if_else(gone, generators::RELEASING, state[i]);
+        i += 1;
+    }
+    out
+}
+
+// The generators after the new table replaced the old one.
+pub fn mask(s: Generators, p: u8, old: Table, new: Table) -> Generators
+    ensures { λ r. ⌜ r ≡ masked p old new s ⌝ }
+{
+    let state = s.state;
+    let channel = s.channel;
+    let after = release(state, channel, marks(p, old, new));
+    let mut next = s;
+    next.state = after;
+    next
+}

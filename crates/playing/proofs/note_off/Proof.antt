@@ -1,0 +1,38 @@
+-- `playing::note_off` meets its contract: nothing on a rhythm channel, a change of state elsewhere.
+-- Assumes nothing.
+use mathlib.Core.Path.{sym, _∙_}
+use Rattle.playing.specs.Playing.{playNoteOff}
+use borrow.Author.Needs.{needs}
+use Rattle.playing.proofs.note_off.Statement.{statement}
+use Rattle.playing.proofs.note_off.Tie as tie
+
+is-rhythm-requires : tie.Need-is-rhythm-requires
+is-rhythm-requires c κs = search needs
+
+returns : tie.Need-returns
+unfolding playNoteOff
+returns c = simp (sym (c .before .is-rhythm .ensures) ∙ c .if1 .taken)
+
+pedal-down-requires : tie.Need-pedal-down-requires
+pedal-down-requires c κs = search needs
+
+apply-requires : tie.Need-apply-requires
+apply-requires c κs = search needs
+
+with-generators-requires : tie.Need-with-generators-requires
+with-generators-requires c κs = search needs
+
+returns-2 : tie.Need-returns-2
+unfolding playNoteOff
+returns-2 c = simp (sym (c .before .before .before .before .is-rhythm .ensures) ∙ c .before .before .before .if1 .left, c .with-generators .ensures, c .before .apply .ensures, c .before .before .pedal-down .ensures)
+
+pub note-off-spec : {M : Type 1} → statement M
+note-off-spec =
+    tie.close
+    (tie.spec
+    is-rhythm-requires
+    returns
+    pedal-down-requires
+    apply-requires
+    with-generators-requires
+    returns-2)

@@ -1,0 +1,112 @@
+// What a complete channel message does to the sound module, and what it answers (document 01, "Note-on" and "Other messages"), by value, for every value.
+// Masking stops note-ons and nothing else. Assumes nothing.
+ghost use mathlib.Core.Path.{_≡_};
+ghost use Rattle.playing.specs.Playing.{notesAfter, playNoteOn, playNoteOff, playControl, replyOf, done, played};
+use allocation::Taken;
+use allocation::Was;
+use changes::Change;
+use generators::Generators;
+use instrument::Instrument;
+use message::Message;
+use silence::Leaving;
+
+// The answer to a byte or a report.
+pub enum Answer {
+    // None: the byte completed nothing that counts.
+    Nothing,
+    // A complete channel message other than a sounding note, an accepted MIP message or reset, an accepted report.
+    Done,
+    // A note: its channel, its key, its generator, and what that was.
+    Note(u8, u8, u8, Was),
+    // A note-on without a generator: number 10 or 11, its channel and its key.
+    NoNote(u8, u8, u8),
+    // Any other number.
+    Number(u8),
+}
+
+pub struct Reply {
+    pub answer: Answer,
+    pub instrument: Instrument,
+}
+
+// What a controller does to notes: the pedal, 120, 121 and 123.
+fn notes_after(s: Generators, pedal: bool, channel: u8, n: u8, v: u8) -> Generators
+    ensures { λ r. ⌜ r ≡ notesAfter pedal channel n v s ⌝ }
+{
+    if ((n == 64) & (v < 64)) | ((n == 121) & (v == 0)) {
+        return changes::apply(s, Change::PedalUp(channel));
+    }
+    if (n == 120) & (v == 0) {
+        return silence::fall_silent(s, Leaving::Channel(channel));
+    }
+    if (n == 123) & (v == 0) {
+        return changes::apply(s, Change::AllNotesOff(pedal, channel));
+    }
+    s
+}
+
+fn control(i: Instrument, channel: u8, n: u8, v: u8) -> Instrument
+    ensures { λ r. ⌜ r ≡ playControl i channel n v ⌝ }
+{
+    let pedal = i.pedal_down(channel) & !i.is_rhythm(channel);
+    let after = notes_after(i.generators, pedal, channel, n, v);
+    let x = i.channel_of(channel).control(n, v);
+    i.with_channel(channel, x).with_generators(after)
+}
+
+// A drum ends by its report and not by its note-off.
+fn note_off(i: Instrument, channel: u8, key: u8) -> Instrument
+    ensures { λ r. ⌜ r ≡ playNoteOff i channel key ⌝ }
+{
+    if i.is_rhythm(channel) {
+        return i;
+    }
+    let pedal = i.pedal_down(channel);
+    let after = changes::apply(i.generators, Change::NoteOff(pedal, channel, key));
+    i.with_generators(after)
+}
+
+fn note_answer(taken: Taken, channel: u8, key: u8) -> Answer
+    ensures { λ r. ⌜ r ≡ replyOf taken channel key ⌝ }
+{
+    match taken {
+        Taken::Took(g, was) => Answer::Note(channel, key, g, was),
+        Taken::Refused(number) => Answer::NoNote(number, channel, key),
+    }
+}
+
+fn note_on(i: Instrument, channel: u8, key: u8) -> Reply
+    ensures { λ r. ⌜ r ≡ playNoteOn i channel key ⌝ }
+{
+    let rhythm = i.is_rhythm(channel);
+    let a = allocation::note_on(i.generators, i.table, i.polyphony, rhythm, channel, key);
+    let taken = a.taken;
+    let after = a.generators;
+    Reply {
+        answer: note_answer(taken, channel, key),
+        instrument: i.with_generators(after),
+    }
+}
+
+fn done(i: Instrument) -> Reply
+    ensures { λ r. ⌜ r ≡ done i ⌝ }
+{
+    Reply {
+        answer: Answer::Done,
+        instrument: i,
+    }
+}
+
+// A complete channel message.
+pub fn play(i: Instrument, m: Message) -> Reply
+    ensures { λ r. ⌜ r ≡ played i m ⌝ }
+{
+    match m {
+        Message::NoteOn(c, k) => note_on(i, c, k),
+        Message::NoteOff(c, k) => done(note_off(i, c, k)),
+        Message::Control(c, n, v) => done(control(i, c, n, v)),
+        Message::Program(c, n) => done(i.with_channel(c, i.channel_of(c).program(n))),
+        Message::Bend(c, msb, lsb) => done(i.with_channel(c, i.channel_of(c).bend(msb, lsb))),
+        Message::Other => done(i),
+    }
+}
