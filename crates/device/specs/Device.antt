@@ -1,9 +1,8 @@
--- Document 01: the device by its bytes, from its start on, and the queries.
+-- Document 01: the device by its bytes, from its start on.
 use Prim.Native.Nat.{ℕ}
 use mathlib.Core.Bool.{Bool, _||_}
 use mathlib.Core.List.{List}
-use mathlib.Core.Option.{Option, some, none}
-use lib.Dec.{leb, ltb}
+use lib.Dec.{ltb}
 use lib.ListN.{drop}
 use Rattle.loops.specs.Cases.{if_then_else_}
 use Rattle.splitter.specs.declared.Parser.{Parser}
@@ -18,10 +17,6 @@ use Rattle.sysex.specs.declared.Verdict.{Verdict}
 use Rattle.sysex.specs.declared.Judged.{Judged}
 use Rattle.sysex.specs.SysEx.{kindOf, judged}
 use Rattle.table.specs.declared.Table.{Table}
-use Rattle.shares.specs.declared.MaskAnswer.{MaskAnswer}
-use Rattle.shares.specs.declared.ShareAnswer.{ShareAnswer}
-use Rattle.shares.specs.Shares.{maskQuery, shareQuery}
-use Rattle.generators.specs.Generators.{at}
 use Rattle.instrument.specs.declared.Instrument.{Instrument}
 use Rattle.instrument.specs.Instrument.{fresh, withTable, withGenerators}
 use Rattle.masking.specs.Masking.{masked}
@@ -31,8 +26,6 @@ use Rattle.playing.specs.declared.Reply.{Reply}
 use Rattle.playing.specs.Playing.{played}
 use Rattle.device.specs.declared.Device.{Device}
 use Rattle.device.specs.declared.Output.{Output}
-use Rattle.device.specs.declared.GeneratorAnswer.{GeneratorAnswer}
-use Rattle.device.specs.declared.GeneratorAnswer.the-variants.{GeneratorIs, NoGenerator}
 
 abbrev pub replied : Answer → Instrument → Reply
 replied a i = record { answer = a; instrument = i }
@@ -82,21 +75,3 @@ outputOf p r = record { answer = r .answer; device = record { parser = p; instru
 -- a byte
 unfoldable pub byteTaken : Device → ℕ → Output
 byteTaken d b = outputOf (split (d .parser) b .parser) (heard (d .instrument) (d .parser) (split (d .parser) b .completed))
-
--- "They give a generator's state, channel and key"; number 12: "generator P or above"
-unfoldable pub generatorQuery : Device → ℕ → GeneratorAnswer
-generatorQuery d g =
-    if leb (d .instrument .polyphony) g
-    then NoGenerator
-    else GeneratorIs (at (d .instrument .generators) g .state) (at (d .instrument .generators) g .channel) (at (d .instrument .generators) g .key)
-
-abbrev pub generatorNumber : GeneratorAnswer → Option ℕ
-generatorNumber (GeneratorIs s c k) = none
-generatorNumber NoGenerator = some 12
-
--- "whether a channel is masked; its share, 0 if masked"
-abbrev pub deviceMask : Device → ℕ → MaskAnswer
-deviceMask d c = maskQuery (d .instrument .table) (d .instrument .polyphony) c
-
-abbrev pub deviceShare : Device → ℕ → ShareAnswer
-deviceShare d c = shareQuery (d .instrument .table) (d .instrument .polyphony) c

@@ -1,2 +1,2 @@
--- The device: start, bytes, queries.
+-- The device: start and bytes.
 pub mod Device

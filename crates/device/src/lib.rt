@@ -1,13 +1,11 @@
-// The device (document 01): its start, its bytes and the queries, by value, for every value of the record. The report of an ended generator is not here yet: it
+// The device (document 01): its start and its bytes, by value, for every value of the record. The report of an ended generator is not here yet: it
 // lands together with the proof of demand 3. Assumes nothing.
 ghost use mathlib.Core.Path.{_≡_};
 ghost use Rattle.splitter.specs.Split.{body};
-ghost use Rattle.device.specs.Device.{freshOutput, started, newTable, replied, mipTaken, exclusive, heard, byteTaken, generatorQuery, deviceMask, deviceShare};
+ghost use Rattle.device.specs.Device.{freshOutput, started, newTable, replied, mipTaken, exclusive, heard, byteTaken};
 use instrument::Instrument;
 use playing::Answer;
 use playing::Reply;
-use shares::MaskAnswer;
-use shares::ShareAnswer;
 use splitter::Completed;
 use splitter::Parser;
 use sysex::Kind;
@@ -25,14 +23,6 @@ pub struct Device {
 pub struct Output {
     pub answer: Answer,
     pub device: Device,
-}
-
-// The answer to a query of a generator.
-pub enum GeneratorAnswer {
-    // Its state, its channel and its key.
-    GeneratorIs(u8, u8, u8),
-    // Number 12: there is no generator of that number.
-    NoGenerator,
 }
 
 fn fresh_output(answer: Answer, polyphony: u8, id: u8) -> Output
@@ -142,41 +132,4 @@ pub fn byte(d: Device, b: u8) -> Output
         answer: answer,
         device: device,
     }
-}
-
-// The state, channel and key of generator g.
-pub fn generator_query(d: Device, g: u8) -> GeneratorAnswer
-    ensures { λ r. ⌜ r ≡ generatorQuery d g ⌝ }
-{
-    let i = d.instrument;
-    if i.polyphony <= g {
-        return GeneratorAnswer::NoGenerator;
-    }
-    let s = i.generators;
-    let state = s.state;
-    let channel = s.channel;
-    let key = s.key;
-    GeneratorAnswer::GeneratorIs(
-        loops::element(state, g),
-        loops::element(channel, g),
-        loops::element(key, g),
-    )
-}
-
-// Whether channel c is masked.
-pub fn mask_query(d: Device, c: u8) -> MaskAnswer
-    ensures { λ r. ⌜ r ≡ deviceMask d c ⌝ }
-{
-    let i = d.instrument;
-    let t = i.table;
-    shares::mask_query(t, i.polyphony, c)
-}
-
-// The share of channel c, 0 if it is masked.
-pub fn share_query(d: Device, c: u8) -> ShareAnswer
-    ensures { λ r. ⌜ r ≡ deviceShare d c ⌝ }
-{
-    let i = d.instrument;
-    let t = i.table;
-    shares::share_query(t, i.polyphony, c)
 }

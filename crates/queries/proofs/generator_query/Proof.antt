@@ -1,10 +1,10 @@
--- `device::generator_query` meets its contract, in each of its two cases.
+-- `queries::generator_query` meets its contract, in each of its two cases.
 -- Assumes nothing.
 use borrow.Author.Tests.{le-leb, lt-leb}
-use Rattle.device.specs.Device.{generatorQuery}
+use Rattle.queries.specs.Queries.{generatorQuery}
 use borrow.Author.Needs.{needs}
-use Rattle.device.proofs.generator_query.Statement.{statement}
-use Rattle.device.proofs.generator_query.Tie as tie
+use Rattle.queries.proofs.generator_query.Statement.{statement}
+use Rattle.queries.proofs.generator_query.Tie as tie
 
 returns : tie.Need-returns
 unfolding generatorQuery

@@ -1,0 +1,2 @@
+-- The queries of the device.
+pub mod Queries

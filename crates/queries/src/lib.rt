@@ -1,0 +1,51 @@
+// The queries of the device (document 01, "Other messages"): they change nothing. By value, for every value of the record. Assumes nothing.
+ghost use mathlib.Core.Path.{_≡_};
+ghost use Rattle.queries.specs.Queries.{generatorQuery, deviceMask, deviceShare};
+use device::Device;
+use shares::MaskAnswer;
+use shares::ShareAnswer;
+
+// The answer to a query of a generator.
+pub enum GeneratorAnswer {
+    // Its state, its channel and its key.
+    GeneratorIs(u8, u8, u8),
+    // Number 12: there is no generator of that number.
+    NoGenerator,
+}
+
+// The state, channel and key of generator g.
+pub fn generator_query(d: Device, g: u8) -> GeneratorAnswer
+    ensures { λ r. ⌜ r ≡ generatorQuery d g ⌝ }
+{
+    let i = d.instrument;
+    if i.polyphony <= g {
+        return GeneratorAnswer::NoGenerator;
+    }
+    let s = i.generators;
+    let state = s.state;
+    let channel = s.channel;
+    let key = s.key;
+    GeneratorAnswer::GeneratorIs(
+        loops::element(state, g),
+        loops::element(channel, g),
+        loops::element(key, g),
+    )
+}
+
+// Whether channel c is masked.
+pub fn mask_query(d: Device, c: u8) -> MaskAnswer
+    ensures { λ r. ⌜ r ≡ deviceMask d c ⌝ }
+{
+    let i = d.instrument;
+    let t = i.table;
+    shares::mask_query(t, i.polyphony, c)
+}
+
+// The share of channel c, 0 if it is masked.
+pub fn share_query(d: Device, c: u8) -> ShareAnswer
+    ensures { λ r. ⌜ r ≡ deviceShare d c ⌝ }
+{
+    let i = d.instrument;
+    let t = i.table;
+    shares::share_query(t, i.polyphony, c)
+}
