@@ -1,0 +1,88 @@
+-- Document 01, "Paper examples": P1 to P9 as one list of what the definitions say, and one of what the paper says.
+use Prim.Native.Nat.{ℕ}
+use mathlib.Core.List.{List, [], _∷_, _++_}
+use lib.ListN.{replicate}
+use Rattle.allocation.specs.declared.Was.the-variants.{Idle, Release, Stolen}
+use Rattle.shares.specs.declared.MaskAnswer.{MaskAnswer}
+use Rattle.shares.specs.declared.MaskAnswer.the-variants.{IsMasked, IsUnmasked}
+use Rattle.shares.specs.declared.ShareAnswer.{ShareAnswer}
+use Rattle.shares.specs.declared.ShareAnswer.the-variants.{ShareIs}
+use Rattle.sysex.specs.declared.Verdict.{Verdict}
+use Rattle.sysex.specs.declared.Verdict.the-variants.{Accepted, Refused}
+use Rattle.sysex.specs.SysEx.{judged}
+use Rattle.playing.specs.declared.Answer.{Answer}
+use Rattle.playing.specs.declared.Answer.the-variants.{Nothing, Done, Note, NoNote, Number}
+use Rattle.device.specs.declared.Device.{Device}
+use Rattle.device.specs.Device.{started, byteTaken}
+use Rattle.queries.specs.Queries.{deviceMask, deviceShare}
+
+-- the device after bytes, and its answer to the last of them
+abbrev pub after : Device → List ℕ → Device
+after d [] = d
+after d (b ∷ l) = after (byteTaken d b .device) l
+
+abbrev pub lastAnswer : Device → List ℕ → Answer
+lastAnswer d [] = Nothing
+lastAnswer d (b ∷ []) = byteTaken d b .answer
+lastAnswer d (b ∷ c ∷ l) = lastAnswer (byteTaken d b .device) (c ∷ l)
+
+abbrev pub fresh : ℕ → Device
+fresh p = started p 0 .device
+
+-- what an example looks at
+pub data Seen : Type 0 where
+  answer : Answer → Seen
+  mask : MaskAnswer → Seen
+  share : ShareAnswer → Seen
+  verdict : Verdict → Seen
+
+-- a MIP message
+abbrev pub mip : List ℕ → List ℕ
+mip l = 0xF0 ∷ 0x7F ∷ 0x7F ∷ 0x0B ∷ 0x01 ∷ (l ++ (0xF7 ∷ []))
+
+-- P1, P2: "P 10, values 3, 7, 10 for channels 1 to 3, busy 2, 6, 2"
+abbrev pub crowd : List ℕ
+crowd =
+    mip (0x00 ∷ 3 ∷ 0x01 ∷ 7 ∷ 0x02 ∷ 10 ∷ [])
+    ++ (0x90 ∷ 60 ∷ 64 ∷ 61 ∷ 64 ∷ [])
+    ++ (0x91 ∷ 60 ∷ 64 ∷ 61 ∷ 64 ∷ 62 ∷ 64 ∷ 63 ∷ 64 ∷ 64 ∷ 64 ∷ 65 ∷ 64 ∷ [])
+    ++ (0x92 ∷ 60 ∷ 64 ∷ 61 ∷ 64 ∷ [])
+
+-- P9: sixteen pairs
+abbrev pub sixteen : List ℕ
+sixteen =
+    0 ∷ 1 ∷ 1 ∷ 1 ∷ 2 ∷ 1 ∷ 3 ∷ 1 ∷ 4 ∷ 1 ∷ 5 ∷ 1 ∷ 6 ∷ 1 ∷ 7 ∷ 1
+    ∷ 8 ∷ 1 ∷ 9 ∷ 1 ∷ 10 ∷ 1 ∷ 11 ∷ 1 ∷ 12 ∷ 1 ∷ 13 ∷ 1 ∷ 14 ∷ 1 ∷ 15 ∷ 1 ∷ []
+
+-- what the definitions say
+unfoldable pub computed : List Seen
+computed =
+    answer (lastAnswer (fresh 10) (crowd ++ (62 ∷ 64 ∷ [])))
+    ∷ answer (lastAnswer (fresh 10) (crowd ++ (62 ∷ 64 ∷ 63 ∷ 64 ∷ [])))
+    ∷ mask (deviceMask (after (fresh 10) (mip (0x00 ∷ 10 ∷ []))) 1)
+    ∷ mask (deviceMask (after (fresh 10) (mip (0x00 ∷ 11 ∷ []))) 1)
+    ∷ share (deviceShare (after (fresh 10) (mip (0x00 ∷ 5 ∷ 0x01 ∷ 5 ∷ []))) 1)
+    ∷ share (deviceShare (after (fresh 10) (mip (0x00 ∷ 5 ∷ 0x01 ∷ 5 ∷ []))) 2)
+    ∷ answer (lastAnswer (fresh 1) (0x90 ∷ 0x3C ∷ 0x40 ∷ 0x99 ∷ 0x24 ∷ 0x40 ∷ []))
+    ∷ answer (lastAnswer (fresh 1) (0x99 ∷ 0x24 ∷ 0x40 ∷ 0x90 ∷ 0x3C ∷ 0x40 ∷ []))
+    ∷ answer (lastAnswer (fresh 4) (0x99 ∷ 0x2E ∷ 0x40 ∷ 0x2A ∷ 0x40 ∷ []))
+    ∷ verdict (judged sixteen .verdict)
+    ∷ verdict (judged (replicate 33 0) .verdict)
+    ∷ []
+
+-- what the paper says: P1 steals from channel 2, whose oldest note is on generator 2, and P2 from channel 3, whose oldest is on 8; "P3: value P is
+-- unmasked; P4: P + 1 is masked. P5: P 10, values 5, 5 give shares 5, 0"; P6 steals, P7 is number 11; P8: "key 46 goes idle and its generator takes 42"; P9
+unfoldable pub printed : List Seen
+printed =
+    answer (Note 3 62 2 Stolen)
+    ∷ answer (Note 3 63 8 Stolen)
+    ∷ mask IsUnmasked
+    ∷ mask IsMasked
+    ∷ share (ShareIs 5)
+    ∷ share (ShareIs 0)
+    ∷ answer (Note 10 36 0 Stolen)
+    ∷ answer (NoNote 11 1 60)
+    ∷ answer (Note 10 42 0 Idle)
+    ∷ verdict Accepted
+    ∷ verdict (Refused 5)
+    ∷ []

@@ -1,0 +1,2 @@
+-- The paper's examples.
+pub mod Examples
