@@ -1,21 +1,21 @@
 -- Laws about the order: what is in its record, and one generator more.
 -- Assumes nothing.
 use mathlib.Core.Path.{_≡_, refl, sym, ap, _∙_}
-use mathlib.Core.Bool.{Bool, true, false, not}
+use mathlib.Core.Bool.{Bool, true, false}
 use mathlib.Core.List.{List, [], _∷_, _++_}
 use Prim.Native.Nat.{ℕ, _+_, _≤_, _<_}
 use native.Mathlib.Omega.{arith}
-use borrow.Author.Tests.{lt-ltb, le-ltb, ltb-true, ltb-false, eqb-true, eqb-false, eq-eqb, ne-eqb}
-use lib.Dec.{eqb, ltb}
-use lib.ListN.{length, getD, set, take, replicate, length-append, length-replicate, getD-replicate, List·getD-eq-default}
-use lib.Seq.{take-all, take-append-le, length-take-le, getD-set-same, getD-set-other}
-use Rattle.loops.specs.Cases.{if_then_else_, atMost}
+use borrow.Author.Tests.{ltb-true, ltb-false}
+use lib.Dec.{ltb}
+use lib.ListN.{length, getD, set, take, replicate, length-append, getD-replicate, List·getD-eq-default}
+use lib.Seq.{take-all, take-append-le, length-take-le, set-set, set-out}
+use Rattle.loops.specs.Cases.{if_then_else_, bit, atMost}
 use Rattle.loops.specs.Passes.{filterBy, padded}
-use Rattle.loops.proofs.Padded.{padded-push, padded-take, padded-full, at-most-le, take-at-most, length-at-most}
-use Rattle.loops.proofs.Compact.{kept, kept-few}
-use Rattle.loops.proofs.Search.{filter-length, filter-same}
+use Rattle.loops.proofs.Padded.{padded-push, padded-blank, length-padded, padded-take, padded-full, at-most-le, take-at-most, length-at-most}
+use Rattle.loops.proofs.Compact.{kept, kept-few, kept-count, kept-next}
+use Rattle.loops.proofs.Search.{filter-length, filter-no}
 use Rattle.ages.specs.declared.Ages.{Ages}
-use Rattle.ages.specs.Ages.{oldestFirst, agesOf, pushed, unmarked, without, otherThan}
+use Rattle.ages.specs.Ages.{oldestFirst, agesOf, pushed}
 
 -- the record of at most 64 numbers has them in their order
 pub order-of : (l : List ℕ) → length l ≤ 64 → oldestFirst (agesOf l) ≡ l
@@ -40,7 +40,7 @@ push-of l g = go (ltb (length l) 64) refl
         let b : take 64 (l ++ (g ∷ [])) ≡ take 64 l = take-append-le 64 l (g ∷ []) h in
         rw (b, a, padded-full 0 64 l (g ∷ []) h)
 
--- one mark stands for one generator
+-- no generator has a mark
 abbrev pub no-marks : List ℕ
 no-marks = replicate 64 0
 
@@ -48,28 +48,42 @@ pub no-mark : (h : ℕ) (b : Bool) → ltb h 64 ≡ b → getD no-marks h 0 ≡ 
 no-mark h true t = getD-replicate 64 h 0 0 (ltb-true _ _ t)
 no-mark h false t = List·getD-eq-default no-marks 0 {n = h} (ltb-false _ _ t)
 
-pub one-mark : (g : ℕ) → g < 64 → (h : ℕ) → unmarked (set no-marks g 1) h ≡ otherThan g h
-one-mark g k h = go (eqb h g) refl
-  where
-    go : (b : Bool) → eqb h g ≡ b → eqb (getD (set no-marks g 1) h 0) 0 ≡ not b
-    go true e = rw (eqb-true h g e, getD-set-same no-marks g 1 0 k)
-    go false e = rw (getD-set-other no-marks g h 1 0 (eqb-false h g e), no-mark h (ltb h 64) refl)
-
--- the end of the loop in `without`: what was kept is the order of those without a mark
-pub without-end : (a : Ages) (marks : List ℕ) (i m : ℕ) (out : List ℕ) → length (a .generator) ≡ 64 → i ≡ atMost 64 (a .count)
-    → m ≡ length (kept (unmarked marks) 0 64 (a .generator) i) → out ≡ padded 64 0 (kept (unmarked marks) 0 64 (a .generator) i)
-    → record { count = m; generator = out } ≡ without a marks
-unfolding without agesOf
-without-end a marks i m out g e q o =
+-- the end of a loop that keeps those that pass: what was kept is the order of those
+pub kept-end : (p : ℕ → Bool) (a : Ages) (i m : ℕ) (out : List ℕ) → length (a .generator) ≡ 64 → i ≡ atMost 64 (a .count)
+    → m ≡ length (kept p 0 64 (a .generator) i) → out ≡ padded 64 0 (kept p 0 64 (a .generator) i)
+    → record { count = m; generator = out } ≡ agesOf (filterBy p (oldestFirst a))
+unfolding agesOf
+kept-end p a i m out g e q o =
     let t : take i (a .generator) ≡ oldestFirst a = rw e (take-at-most 64 (a .count) (a .generator) g) in
     let s = length-at-most 64 (a .count) (a .generator) g in
     let u : length (oldestFirst a) ≡ i = omega arith in
-    let k = filter-length (unmarked marks) (oldestFirst a) in
+    let k = filter-length p (oldestFirst a) in
     let b = at-most-le 64 (a .count) in
-    rw (q, o, t, take-all 64 (filterBy (unmarked marks) (oldestFirst a)) (omega arith))
+    rw (q, o, t, take-all 64 (filterBy p (oldestFirst a)) (omega arith))
 
--- without the one generator, and with it behind the others
-pub newest-of : (a : Ages) (g : ℕ) → g < 64 → pushed (without a (set no-marks g 1)) g ≡ agesOf (filterBy (otherThan g) (oldestFirst a) ++ (g ∷ []))
-unfolding without
-newest-of a g h =
-    rw (filter-same (unmarked (set no-marks g 1)) (otherThan g) (oldestFirst a) (one-mark g h)) (push-of (filterBy (otherThan g) (oldestFirst a)) g)
+-- A loop that puts each number behind those kept, whether it stays or not: up to the number at m, which may not stay, the array holds what is kept.
+module _ (p : ℕ → Bool) (l : List ℕ) where
+  -- a turn
+  pub loose-next : (i m : ℕ) (out : List ℕ) → i < length l → i < 64 → m ≡ length (kept p 0 64 l i) → set out m 0 ≡ padded 64 0 (kept p 0 64 l i)
+      → set (set out m (getD l i 0)) (m + bit (p (getD l i 0))) 0 ≡ padded 64 0 (kept p 0 64 l (i + 1))
+  loose-next i m out h k e o = go (p (getD l i 0)) refl
+    where
+      few : length (kept p 0 64 l i) < 64
+      few = let a = kept-few p 0 64 l i (omega arith) in omega arith
+
+      blank : (m : List ℕ) (b : Bool) → ltb (length m) 64 ≡ b → set (padded 64 0 m) (length m) 0 ≡ padded 64 0 m
+      blank m true t = padded-blank 0 64 m (ltb-true _ _ t)
+      blank m false t =
+          let a = length-padded 0 64 m in
+          let f : 64 ≤ length m = ltb-false _ _ t in
+          set-out (padded 64 0 m) (length m) 0 (omega arith)
+
+      go : (b : Bool) → p (getD l i 0) ≡ b → set (set out m (getD l i 0)) (m + bit b) 0 ≡ padded 64 0 (kept p 0 64 l (i + 1))
+      go true t =
+          let c : m + 1 ≡ length (kept p 0 64 l (i + 1)) = kept-count p 0 64 l i m (padded 64 0 (kept p 0 64 l i)) true h k t e refl in
+          let q : set out m (getD l i 0) ≡ padded 64 0 (kept p 0 64 l (i + 1)) =
+          sym (set-set out m 0 (getD l i 0)) ∙ ap (λ (r : List ℕ). set r m (getD l i 0)) o ∙ kept-next p 0 64 l i m (padded 64 0 (kept p 0 64 l i)) true h k t e refl in
+          rw (q, c) (blank (kept p 0 64 l (i + 1)) (ltb (length (kept p 0 64 l (i + 1))) 64) refl)
+      go false t =
+          let c : m + 0 ≡ m = omega arith in
+          rw c (set-set out m (getD l i 0) 0 ∙ o ∙ ap (padded 64 0) (sym (filter-no p 0 l i h t)))

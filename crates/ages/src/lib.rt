@@ -2,7 +2,8 @@
 // A list and no counter, so that no history is too long for it. By value, for every value. Assumes nothing.
 ghost use mathlib.Core.Path.{_≡_};
 ghost use mathlib.Core.List.{[]};
-ghost use Rattle.ages.specs.Ages.{agesOf, without, pushed, newest};
+ghost use Rattle.loops.specs.Passes.{filterBy};
+ghost use Rattle.ages.specs.Ages.{oldestFirst, agesOf, otherThan, without, pushed, newest};
 
 // The first `count` numbers are the sounding generators, the oldest first; the others are 0.
 #[repr(C)]
@@ -12,16 +13,6 @@ pub struct Ages {
 }
 
 impl Ages {
-    // No generator sounds.
-    pub fn none() -> Self
-        ensures { λ r. ⌜ r ≡ agesOf [] ⌝ }
-    {
-        Ages {
-            count: 0,
-            generator: [0; 64],
-        }
-    }
-
     // The order without the generators that have a mark.
     pub fn without(self, marks: [u8; 64]) -> Self
         ensures { λ r. ⌜ r ≡ without self marks ⌝ }
@@ -54,10 +45,39 @@ impl Ages {
         if 64 <= at {
             return self;
         }
-        let mut marks = [0u8; 64];
-        marks[at] = 1;
-        let older = self.without(marks);
+        let older = self.but(g);
         older.push(g)
+    }
+
+    // The order without generator g: as `without`, but the number itself is compared, which is quicker than a mark for it.
+    fn but(self, g: u8) -> Self
+        ensures { λ r. ⌜ r ≡ agesOf (filterBy (otherThan g) (oldestFirst self)) ⌝ }
+    {
+        let order = self.generator;
+        let all = loops::at_most(64, self.count) as usize;
+        let mut kept = [0u8; 64];
+        let mut m: u8 = 0;
+        let mut i: usize = 0;
+        while i < all {
+            let h = order[i];
+            let at = m as usize;
+            // Put behind those that stay even if it does not: the next one that stays replaces it.
+            kept[at] = h;
+            m = m + loops::one(h != g);
+            i += 1;
+        }
+        let end = m as usize;
+        if 64 <= end {
+            return Ages {
+                count: m,
+                generator: kept,
+            };
+        }
+        kept[end] = 0;
+        Ages {
+            count: m,
+            generator: kept,
+        }
     }
 
     fn push(self, g: u8) -> Self

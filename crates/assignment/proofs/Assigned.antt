@@ -20,13 +20,14 @@ use Rattle.ages.specs.declared.Ages.{Ages}
 use Rattle.ages.specs.Ages.{oldestFirst, agesOf, newest, otherThan}
 use Rattle.ages.proofs.Orders.{order-of, no-mark}
 use Rattle.generators.specs.declared.Generators.{Generators}
-use Rattle.generators.specs.Generators.{Generator, at, isSounding, isHeld, isSustained, isOn, isBusyOn, assigned, silent}
+use Rattle.generators.specs.Generators.{Generator, generator, at, isSounding, isHeld, isSustained, isOn, isBusyOn, assigned, silent}
 use Rattle.changes.specs.declared.Change.{Change}
 use Rattle.changes.specs.declared.Change.the-variants.{ReleaseNote, ReleaseChannel, NoteOff, AllNotesOff, PedalUp}
 use Rattle.changes.specs.Changes.{changes, keyUp, stateAfter, changed}
 use Rattle.silence.specs.declared.Leaving.{Leaving}
 use Rattle.silence.specs.Silence.{leaves, goes, silenced}
 use Rattle.assignment.specs.Assignment.{Act, assign, change, silence, done, after, byLast, ByAssignment}
+use Rattle.assignment.proofs.At.{Sized, beyond, restated, restated-at, silenced-at}
 
 abbrev sounds : Generators → ℕ → Bool
 sounds s g = isSounding (at s g)
@@ -36,20 +37,18 @@ order s = oldestFirst (s .ages)
 
 -- the record is well formed: its arrays have 64 places, and the order has each sounding generator once and no other
 pub record Ordered (s : Generators) : Type 0 where
-  pub states : length (s .state) ≡ 64
-  pub channels : length (s .channel) ≡ 64
-  pub keys : length (s .key) ≡ 64
+  pub sized : Sized s
   pub once : (g : ℕ) → occurs g (order s) ≡ bit (sounds s g)
 
 -- beyond the 64 places nothing sounds
-beyond : (s : Generators) → length (s .state) ≡ 64 → (g : ℕ) → 64 ≤ g → sounds s g ≡ false
-beyond s e g h = rw (List·getD-eq-default (s .state) 0 {n = g} (omega arith))
+mute : (s : Generators) → Sized s → (g : ℕ) → 64 ≤ g → sounds s g ≡ false
+mute s z g h = ap isSounding (beyond s z g h)
 
 -- the order is as long as there are sounding generators
 pub order-length : (s : Generators) → Ordered s → total (λ g. bit (sounds s g)) 64 ≡ length (order s)
 order-length s o =
     total-same (λ (g : ℕ). bit (sounds s g)) (λ (g : ℕ). occurs g (order s)) 64 (λ g k. sym (o .once g))
-    ∙ length-total 64 (order s) (λ h k. o .once h ∙ ap bit (beyond s (o .states) h k))
+    ∙ length-total 64 (order s) (λ h k. o .once h ∙ ap bit (mute s (o .sized) h k))
 
 pub order-few : (s : Generators) → Ordered s → length (order s) ≤ 64
 order-few s o = let e = order-length s o in let k = total-bits (sounds s) 64 in omega arith
@@ -68,7 +67,7 @@ module _ (s : Generators) (o : Ordered s) (g c k : ℕ) (h : g < 64) where
   sounds-other x n = rw (getD-set-other (s .state) g x 1 0 n)
 
   sounds-new : sounds next g ≡ true
-  sounds-new = let l = o .states in rw (getD-set-same (s .state) g 1 0 (omega arith))
+  sounds-new = let l = o .sized .states in rw (getD-set-same (s .state) g 1 0 (omega arith))
 
   -- what sounds besides g
   both : (x : ℕ) → (if otherThan g x then sounds next x else false) ≡ (if otherThan g x then sounds s x else false)
@@ -97,7 +96,7 @@ module _ (s : Generators) (o : Ordered s) (g c k : ℕ) (h : g < 64) where
       omega arith
     where
       out : (x : ℕ) → 64 ≤ x → bit (if otherThan g x then sounds s x else false) ≡ 0
-      out x m = rw (beyond s (o .states) x m) (go (otherThan g x))
+      out x m = rw (mute s (o .sized) x m) (go (otherThan g x))
         where
           go : (b : Bool) → bit (if b then false else false) ≡ 0
           go true = refl
@@ -125,9 +124,7 @@ module _ (s : Generators) (o : Ordered s) (g c k : ℕ) (h : g < 64) where
   assigned-ordered =
       rw assigned-next
       (record {
-        states = length-set (s .state) g 1 ∙ o .states;
-        channels = length-set (s .channel) g c ∙ o .channels;
-        keys = length-set (s .key) g k ∙ o .keys;
+        sized = record { states = length-set (s .state) g 1 ∙ o .sized .states; channels = length-set (s .channel) g c ∙ o .sized .channels; keys = length-set (s .key) g k ∙ o .sized .keys };
         once = once;
       })
     where
@@ -159,7 +156,7 @@ or-right : (a b : Bool) → b ≡ true → (a || b) ≡ true
 or-right true b e = refl
 or-right false b e = e
 
-change-busy : (h : Change) (x : Generator) → changes h x ≡ true → (isHeld x || isSustained x) ≡ true
+pub change-busy : (h : Change) (x : Generator) → changes h x ≡ true → (isHeld x || isSustained x) ≡ true
 unfolding changes
 change-busy (ReleaseNote c k) x e = first-true _ (isOn c x) (first-true _ (eqb (x .key) k) e)
 change-busy (ReleaseChannel c) x e = first-true _ (isOn c x) e
@@ -172,7 +169,7 @@ up-sounds : (pedal : Bool) → eqb (keyUp pedal) 0 ≡ false
 up-sounds true = refl
 up-sounds false = refl
 
-after-sounds : (h : Change) → eqb (stateAfter h) 0 ≡ false
+pub after-sounds : (h : Change) → eqb (stateAfter h) 0 ≡ false
 unfolding stateAfter
 after-sounds (ReleaseNote c k) = refl
 after-sounds (ReleaseChannel c) = refl
@@ -180,57 +177,35 @@ after-sounds (NoteOff pedal c k) = up-sounds pedal
 after-sounds (AllNotesOff pedal c) = up-sounds pedal
 after-sounds (PedalUp c) = refl
 
-module _ (h : Change) (s : Generators) (o : Ordered s) where
-  pub changed-order : order (changed h s) ≡ order s
-  unfolding changed
-  changed-order = refl
-
-  pub changed-sounds : (x : ℕ) → sounds (changed h s) x ≡ sounds s x
-  unfolding changed
-  changed-sounds x = go (ltb x 64) refl
+-- busy generators that pass go to a state that sounds
+module _ (s : Generators) (o : Ordered s) (t : Generator → Bool) (n : ℕ) (busy : (x : Generator) → t x ≡ true → (isHeld x || isSustained x) ≡ true) (k : eqb n 0 ≡ false) where
+  pub restated-sounds : (x : ℕ) → sounds (restated s (o .sized) t n busy) x ≡ sounds s x
+  restated-sounds x = ap isSounding (restated-at s (o .sized) t n busy x) ∙ go (t (at s x)) refl
     where
-      rule : ℕ → ℕ
-      rule g = if changes h (at s g) then stateAfter h else at s g .state
+      go : (b : Bool) → t (at s x) ≡ b → isSounding (if b then generator n (at s x .channel) (at s x .key) else at s x) ≡ sounds s x
+      go true e = rw k (sym (unidle (at s x) (eqb (at s x .state) 0) refl (busy (at s x) e)))
+      go false e = refl
 
-      kept : (b : Bool) → changes h (at s x) ≡ b → not (eqb (if b then stateAfter h else at s x .state) 0) ≡ sounds s x
-      kept true e = rw (after-sounds h) (sym (unidle (at s x) (eqb (at s x .state) 0) refl (change-busy h (at s x) e)))
-      kept false e = refl
-
-      go : (b : Bool) → ltb x 64 ≡ b → sounds (changed h s) x ≡ sounds s x
-      go true t = rw (at-upTo rule 0 64 x (ltb-true x 64 t)) (kept (changes h (at s x)) refl)
-      go false t =
-          let k : 64 ≤ x = ltb-false x 64 t in
-          beyond (changed h s) (length-upTo rule 64) x k ∙ sym (beyond s (o .states) x k)
-
-  pub changed-ordered : Ordered (changed h s)
-  unfolding changed
-  changed-ordered =
+  pub restated-ordered : Ordered (restated s (o .sized) t n busy)
+  restated-ordered =
       record {
-        states = length-upTo _ 64;
-        channels = o .channels;
-        keys = o .keys;
-        once = λ g. o .once g ∙ ap bit (sym (changed-sounds g));
+        sized = record { states = length-upTo _ 64; channels = o .sized .channels; keys = o .sized .keys };
+        once = λ g. o .once g ∙ ap bit (sym (restated-sounds g));
       }
+
+pub changed-ordered : (h : Change) (s : Generators) → Ordered s → Ordered (changed h s)
+unfolding changed
+changed-ordered h s o = restated-ordered s o (changes h) (stateAfter h) (change-busy h) (after-sounds h)
 
 -- ---- generators fall silent
 
 module _ (l : Leaving) (s : Generators) (o : Ordered s) where
   pub silenced-sounds : (x : ℕ) → sounds (silenced l s) x ≡ (if not (goes l s x) then sounds s x else false)
-  unfolding silenced leaves
-  silenced-sounds x = go (ltb x 64) refl
+  silenced-sounds x = ap isSounding (silenced-at l s (o .sized) x) ∙ go (goes l s x)
     where
-      rule : ℕ → ℕ
-      rule g = if goes l s g then 0 else at s g .state
-
-      kept : (b : Bool) → not (eqb (if b then 0 else at s x .state) 0) ≡ (if not b then sounds s x else false)
-      kept true = refl
-      kept false = refl
-
-      go : (b : Bool) → ltb x 64 ≡ b → sounds (silenced l s) x ≡ (if not (goes l s x) then sounds s x else false)
-      go true t = rw (at-upTo rule 0 64 x (ltb-true x 64 t)) (kept (goes l s x))
-      go false t =
-          let k : 64 ≤ x = ltb-false x 64 t in
-          beyond (silenced l s) (length-upTo rule 64) x k ∙ rw (beyond s (o .states) x k)
+      go : (b : Bool) → isSounding (if b then generator 0 0 0 else at s x) ≡ (if not b then sounds s x else false)
+      go true = refl
+      go false = refl
 
   pub silenced-order : order (silenced l s) ≡ filterBy (λ g. not (goes l s g)) (order s)
   unfolding silenced
@@ -239,18 +214,13 @@ module _ (l : Leaving) (s : Generators) (o : Ordered s) where
       let b = order-few s o in
       order-of (filterBy (λ g. not (goes l s g)) (order s)) (omega arith)
 
-  silenced-lengths : (length (silenced l s .state) ≡ 64) × (length (silenced l s .channel) ≡ 64) × (length (silenced l s .key) ≡ 64)
+  silenced-sized : Sized (silenced l s)
   unfolding silenced
-  silenced-lengths = (length-upTo _ 64, length-upTo _ 64, length-upTo _ 64)
+  silenced-sized = record { states = length-upTo _ 64; channels = length-upTo _ 64; keys = length-upTo _ 64 }
 
   pub silenced-ordered : Ordered (silenced l s)
   silenced-ordered =
-      record {
-        states = silenced-lengths .0;
-        channels = silenced-lengths .1;
-        keys = silenced-lengths .2;
-        once = once;
-      }
+      record { sized = silenced-sized; once = once }
     where
       once : (x : ℕ) → occurs x (order (silenced l s)) ≡ bit (sounds (silenced l s) x)
       once x = rw (silenced-order, silenced-sounds x) (occurs-filter (λ (g : ℕ). not (goes l s g)) x (order s) ∙ go (not (goes l s x)))
@@ -263,7 +233,7 @@ module _ (l : Leaving) (s : Generators) (o : Ordered s) where
 
 pub silent-ordered : Ordered silent
 unfolding silent agesOf count
-silent-ordered = record { states = refl; channels = refl; keys = refl; once = λ g. rw (no-mark g (ltb g 64) refl) }
+silent-ordered = record { sized = record { states = refl; channels = refl; keys = refl }; once = λ g. rw (no-mark g (ltb g 64) refl) }
 
 -- each sounding generator stands in the order once, and no other does
 pub ordered : (l : List Act) → Ordered (after l)
@@ -278,26 +248,44 @@ swap true false = refl
 swap false true = refl
 swap false false = refl
 
--- The law: the record's order is that of the last assignments of all that still sound.
-pub by-assignment : (l : List Act) → ByAssignment l
-unfolding silent agesOf filterBy padded
-by-assignment [] = refl
-by-assignment (assign g c k h ∷ l) =
-    let s = after l in
-    let o = ordered l in
+-- the record's order is that of a list from which those that no longer sound are left out
+abbrev pub Follows : Generators → List ℕ → Type 0
+Follows s l = order s ≡ filterBy (sounds s) l
+
+-- an assigned generator goes last in both
+pub follows-assigned : (s : Generators) (o : Ordered s) (g c k : ℕ) → g < 64 → (l : List ℕ) → Follows s l → Follows (assigned g c k s) (filterBy (otherThan g) l ++ (g ∷ []))
+unfolding filterBy
+follows-assigned s o g c k h l f =
     let p : ℕ → Bool = λ x. if otherThan g x then sounds s x else false in
     assigned-order s o g c k h
-    ∙ ap (λ (m : List ℕ). filterBy (otherThan g) m ++ (g ∷ [])) (by-assignment l)
-    ∙ ap (λ (m : List ℕ). m ++ (g ∷ [])) (filter-filter (otherThan g) (sounds s) p (byLast l) (λ x. swap (sounds s x) (otherThan g x)) ∙ sym (filter-filter (sounds (assigned g c k s)) (otherThan g) p (byLast l) (assigned-both s o g c k h)))
-    ∙ ap (λ (m : List ℕ). filterBy (sounds (assigned g c k s)) (filterBy (otherThan g) (byLast l)) ++ m) (sym (rw (assigned-new s o g c k h)))
-    ∙ sym (filter-append (sounds (assigned g c k s)) (filterBy (otherThan g) (byLast l)) (g ∷ []))
-by-assignment (change h ∷ l) =
-    let s = after l in
-    changed-order h s (ordered l)
-    ∙ by-assignment l
-    ∙ filter-same (sounds s) (sounds (changed h s)) (byLast l) (λ x. sym (changed-sounds h s (ordered l) x))
-by-assignment (silence x ∷ l) =
-    let s = after l in
-    silenced-order x s (ordered l)
-    ∙ ap (filterBy (λ (g : ℕ). not (goes x s g))) (by-assignment l)
-    ∙ filter-filter (λ (g : ℕ). not (goes x s g)) (sounds s) (sounds (silenced x s)) (byLast l) (λ g. swap (sounds s g) (not (goes x s g)) ∙ sym (silenced-sounds x s (ordered l) g))
+    ∙ ap (λ (m : List ℕ). filterBy (otherThan g) m ++ (g ∷ [])) f
+    ∙ ap (λ (m : List ℕ). m ++ (g ∷ [])) (filter-filter (otherThan g) (sounds s) p l (λ x. swap (sounds s x) (otherThan g x)) ∙ sym (filter-filter (sounds (assigned g c k s)) (otherThan g) p l (assigned-both s o g c k h)))
+    ∙ ap (λ (m : List ℕ). filterBy (sounds (assigned g c k s)) (filterBy (otherThan g) l) ++ m) (sym (rw (assigned-new s o g c k h)))
+    ∙ sym (filter-append (sounds (assigned g c k s)) (filterBy (otherThan g) l) (g ∷ []))
+
+pub follows-restated : (s : Generators) (o : Ordered s) (t : Generator → Bool) (n : ℕ) (busy : (x : Generator) → t x ≡ true → (isHeld x || isSustained x) ≡ true) (k : eqb n 0 ≡ false)
+    (l : List ℕ) → Follows s l → Follows (restated s (o .sized) t n busy) l
+follows-restated s o t n busy k l f = f ∙ filter-same (sounds s) (sounds (restated s (o .sized) t n busy)) l (λ x. sym (restated-sounds s o t n busy k x))
+
+pub follows-changed : (h : Change) (s : Generators) (o : Ordered s) (l : List ℕ) → Follows s l → Follows (changed h s) l
+unfolding changed
+follows-changed h s o l f = follows-restated s o (changes h) (stateAfter h) (change-busy h) (after-sounds h) l f
+
+pub follows-silenced : (x : Leaving) (s : Generators) (o : Ordered s) (l : List ℕ) → Follows s l → Follows (silenced x s) l
+follows-silenced x s o l f =
+    silenced-order x s o
+    ∙ ap (filterBy (λ (g : ℕ). not (goes x s g))) f
+    ∙ filter-filter (λ (g : ℕ). not (goes x s g)) (sounds s) (sounds (silenced x s)) l (λ g. swap (sounds s g) (not (goes x s g)) ∙ sym (silenced-sounds x s o g))
+
+-- where nothing sounds the order is empty
+pub follows-silent : (l : List ℕ) → Follows silent l
+unfolding silent agesOf filterBy padded
+follows-silent [] = refl
+follows-silent (g ∷ l) = follows-silent l ∙ sym (rw (no-mark g (ltb g 64) refl))
+
+-- The law: the record's order is that of the last assignments of all that still sound.
+pub by-assignment : (l : List Act) → ByAssignment l
+by-assignment [] = follows-silent []
+by-assignment (assign g c k h ∷ l) = follows-assigned (after l) (ordered l) g c k h (byLast l) (by-assignment l)
+by-assignment (change h ∷ l) = follows-changed h (after l) (ordered l) (byLast l) (by-assignment l)
+by-assignment (silence x ∷ l) = follows-silenced x (after l) (ordered l) (byLast l) (by-assignment l)

@@ -1,9 +1,16 @@
 // The choice of a generator (document 01, "Note-on", steps 4 and 5), by value, for every value, in one pass each.
 // Assumes nothing.
 ghost use mathlib.Core.Path.{_≡_};
-ghost use Prim.Native.Nat.{ℕ, _≤_};
-ghost use Rattle.generators.specs.Generators.{generator, isBusyOn};
-ghost use Rattle.choice.specs.Choice.{lowestIdle, wanted, oldest, busyCount};
+ghost use mathlib.Core.Bool.{not};
+ghost use Prim.Native.Nat.{_≤_, _<_};
+ghost use lib.Dec.{eqb};
+ghost use lib.ListN.{getD};
+ghost use Rattle.loops.specs.Passes.{total, upTo, firstOf};
+ghost use Rattle.ages.specs.Ages.{oldestFirst};
+ghost use Rattle.generators.specs.Generators.{generator, at};
+ghost use Rattle.choice.specs.declared.Want.the-variants.{Releasing};
+ghost use Rattle.choice.specs.Choice.{found, lowestIdle, sought, mark, oldest, busyCount};
+use ages::Ages;
 use generators::Generators;
 
 // The generators among which the oldest is looked for.
@@ -22,19 +29,82 @@ pub enum Found {
     Nothing,
 }
 
-fn wanted(w: Want, state: u8, channel: u8) -> bool
-    ensures { λ r. ⌜ ((key : ℕ) → r ≡ wanted w (generator state channel key)) ⌝ }
+// Whether a generator is sought: one that is busy on channel c, or a releasing one. In plain numbers, so that a pass asks it of many generators at once.
+fn is_sought(busy: bool, c: u8, state: u8, channel: u8) -> bool
+    ensures { λ r. ⌜ r ≡ sought busy c (generator state channel 0) ⌝ }
 {
-    match w {
-        Want::Releasing => state == generators::RELEASING,
-        Want::BusyOn(c) => busy_on(state, channel, c),
-    }
+    (busy & (generators::is_busy(state) & (channel == c)))
+        | (!busy & (state == generators::RELEASING))
 }
 
-fn busy_on(state: u8, channel: u8, c: u8) -> bool
-    ensures { λ r. ⌜ r ≡ isBusyOn c (generator state channel 0) ⌝ }
+fn how_many(state: [u8; 64], channel: [u8; 64], busy: bool, c: u8) -> u8
+    ensures { λ r. ⌜ (r ≡ total (λ g. mark busy c state channel g) 64) × (r ≤ 64) ⌝ }
 {
-    ((state == generators::HELD) | (state == generators::SUSTAINED)) & (channel == c)
+    let mut n: u8 = 0;
+    let mut i: usize = 0;
+    while i < 64 {
+        n = n + loops::one(is_sought(busy, c, state[i], channel[i]));
+        i += 1;
+    }
+    n
+}
+
+// A mark, 1, for each generator that is sought, by its number: for every value that a number in the order of age may have.
+fn marks(state: [u8; 64], channel: [u8; 64], busy: bool, c: u8) -> [u8; 256]
+    ensures { λ r. ⌜ r ≡ upTo (λ g. mark busy c state channel g) 256 ⌝ }
+{
+    let mut out = [0u8; 256];
+    let mut i: usize = 0;
+    while i < 64 {
+        out[i] = loops::one(is_sought(busy, c, state[i], channel[i]));
+        i += 1;
+    }
+    out
+}
+
+fn place(g: u8) -> usize
+    ensures { λ r. ⌜ (r ≡ g) × (r < 256) ⌝ }
+{
+    g as usize
+}
+
+// The oldest generator with a mark.
+fn first_marked(order: Ages, marks: [u8; 256]) -> Found
+    ensures { λ r. ⌜ r ≡ found (firstOf (λ g. not (eqb (getD marks g 0) 0)) (oldestFirst order)) ⌝ }
+{
+    let numbers = order.generator;
+    let n = loops::at_most(64, order.count) as usize;
+    let mut i: usize = 0;
+    while i < n {
+        let g = numbers[i];
+        let at = place(g);
+        if marks[at] != 0 {
+            return Found::At(g);
+        }
+        i += 1;
+    }
+    Found::Nothing
+}
+
+fn oldest_sought(s: Generators, busy: bool, c: u8) -> Found
+    ensures { λ r. ⌜ r ≡ found (firstOf (λ g. sought busy c (at s g)) (oldestFirst (s .ages))) ⌝ }
+{
+    let state = s.state;
+    let channel = s.channel;
+    let order = s.ages;
+    first_marked(order, marks(state, channel, busy, c))
+}
+
+// Mostly there is none: the order of age is gone through only where there is one.
+fn oldest_releasing(s: Generators) -> Found
+    ensures { λ r. ⌜ r ≡ oldest Releasing s ⌝ }
+{
+    let state = s.state;
+    let channel = s.channel;
+    if how_many(state, channel, false, 0) == 0 {
+        return Found::Nothing;
+    }
+    oldest_sought(s, false, 0)
 }
 
 // Step 4 of a note-on: the idle generator of lowest number among the first p.
@@ -58,20 +128,10 @@ pub fn lowest_idle(s: Generators, p: u8) -> Found
 pub fn oldest(s: Generators, w: Want) -> Found
     ensures { λ r. ⌜ r ≡ oldest w s ⌝ }
 {
-    let state = s.state;
-    let channel = s.channel;
-    let order = s.ages;
-    let numbers = order.generator;
-    let n = loops::at_most(64, order.count) as usize;
-    let mut i: usize = 0;
-    while i < n {
-        let g = numbers[i];
-        if wanted(w, loops::element(state, g), loops::element(channel, g)) {
-            return Found::At(g);
-        }
-        i += 1;
+    match w {
+        Want::Releasing => oldest_releasing(s),
+        Want::BusyOn(c) => oldest_sought(s, true, c),
     }
-    Found::Nothing
 }
 
 // How many generators are busy on a channel.
@@ -80,11 +140,5 @@ pub fn busy_count(s: Generators, channel: u8) -> u8
 {
     let state = s.state;
     let channels = s.channel;
-    let mut n: u8 = 0;
-    let mut i: usize = 0;
-    while i < 64 {
-        n = n + loops::one(busy_on(state[i], channels[i], channel));
-        i += 1;
-    }
-    n
+    how_many(state, channels, true, channel)
 }

@@ -24,7 +24,7 @@ const DRUMS: [Drum; 11] = [
 ];
 
 // The exclusive group of a key, 0 if it has none.
-pub fn group(key: u8) -> u8
+fn group(key: u8) -> u8
     ensures { λ r. ⌜ r ≡ groupOf key ⌝ }
 {
     let mut i: usize = 0;

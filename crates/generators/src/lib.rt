@@ -1,7 +1,7 @@
 // The generators: what each is, and how one is assigned (document 01, "The device record" and "Note-on"), by value, for every value.
 // Assumes nothing.
 ghost use mathlib.Core.Path.{_≡_};
-ghost use Rattle.generators.specs.Generators.{assigned, silent};
+ghost use Rattle.generators.specs.Generators.{generator, isBusy, assigned, silent};
 use ages::Ages;
 
 pub const IDLE: u8 = 0;
@@ -13,6 +13,13 @@ pub const HELD: u8 = 1;
 pub const SUSTAINED: u8 = 2;
 
 pub const RELEASING: u8 = 3;
+
+// Whether a state is busy: the key is down, or the pedal holds the note.
+pub fn is_busy(state: u8) -> bool
+    ensures { λ r. ⌜ r ≡ isBusy (generator state 0 0) ⌝ }
+{
+    (state == HELD) | (state == SUSTAINED)
+}
 
 // The generators, field by field, by their number: a state above, a channel 1 to 16 and a key 0 to 127 (both 0 while idle); and the sounding ones by age.
 // A state above 3, which no operation makes, counts as sounding and as nothing more.
@@ -29,7 +36,11 @@ impl Generators {
     pub fn silent() -> Self
         ensures { λ r. ⌜ r ≡ silent ⌝ }
     {
-        let nobody = Ages::none();
+        // The order of age is empty.
+        let nobody = Ages {
+            count: 0,
+            generator: [0; 64],
+        };
         Generators {
             state: [IDLE; 64],
             channel: [0; 64],

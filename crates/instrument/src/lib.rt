@@ -2,6 +2,7 @@
 // value. Assumes nothing.
 ghost use mathlib.Core.Path.{_≡_};
 ghost use Rattle.instrument.specs.Instrument.{fresh, channelOf, withChannel, withGenerators, pedalDown, isRhythm};
+ghost use Rattle.channels.specs.Channel.{replaced};
 use channels::Channel;
 use generators::Generators;
 use table::Table;
@@ -17,36 +18,53 @@ pub struct Instrument {
     pub generators: Generators,
 }
 
+// The channels with the one at a place replaced; all as they were at a place that there is not.
+fn replace(channels: [Channel; 16], at: u8, c: Channel) -> [Channel; 16]
+    ensures { λ r. ⌜ r ≡ replaced channels at c ⌝ }
+{
+    let mut out = channels;
+    let place = at as usize;
+    if place < 16 {
+        out[place] = c;
+        return out;
+    }
+    out
+}
+
 impl Instrument {
     pub fn fresh(polyphony: u8, id: u8) -> Self
         ensures { λ r. ⌜ r ≡ fresh polyphony id ⌝ }
     {
         let table = Table::start(polyphony);
-        let channels = channels::fresh_channels();
+        let channel = Channel::fresh();
         let generators = Generators::silent();
         Instrument {
             polyphony: polyphony,
             id: id,
             table: table,
-            channels: channels,
+            channels: [channel; 16],
             generators: generators,
         }
     }
 
-    // The record of channel c.
+    // The record of channel c; a fresh one where there is no such channel.
     pub fn channel_of(self, c: u8) -> Channel
         ensures { λ r. ⌜ r ≡ channelOf self c ⌝ }
     {
-        let all = self.channels;
-        channels::channel_at(all, loops::less(c, 1))
+        let channels = self.channels;
+        let place = loops::less(c, 1) as usize;
+        if place < 16 {
+            return channels[place];
+        }
+        Channel::fresh()
     }
 
     // With the record of channel c replaced.
     pub fn with_channel(self, c: u8, x: Channel) -> Self
         ensures { λ r. ⌜ r ≡ withChannel self c x ⌝ }
     {
-        let all = self.channels;
-        let after = channels::replace(all, loops::less(c, 1), x);
+        let channels = self.channels;
+        let after = replace(channels, loops::less(c, 1), x);
         let mut next = self;
         next.channels = after;
         next

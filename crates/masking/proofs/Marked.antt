@@ -2,12 +2,13 @@
 -- Assumes nothing.
 use mathlib.Core.Path.{_≡_, refl, sym, ap, _∙_}
 use mathlib.Core.Bool.{Bool, true, false, _&&_, not, and-false}
-use mathlib.Core.List.{List}
-use Prim.Native.Nat.{ℕ, _≤_, _<_}
+use mathlib.Core.List.{List, [], _∷_, _++_, append-assoc, append-nil}
+use Prim.Native.Nat.{ℕ, zero, suc, _+_, _≤_, _<_}
+use native.Mathlib.Nat.{add-zero}
 use native.Mathlib.Omega.{arith}
 use borrow.Author.Tests.{ltb-true, ltb-false, lt-leb}
 use lib.Dec.{eqb, ltb, leb}
-use lib.ListN.{length, getD, List·getD-eq-default}
+use lib.ListN.{length, getD, replicate, List·getD-eq-default}
 use Rattle.loops.specs.Cases.{if_then_else_, bit}
 use Rattle.loops.specs.Passes.{upTo}
 use Rattle.loops.proofs.Fill.{at-upTo, length-upTo, upTo-same}
@@ -17,7 +18,21 @@ use Rattle.generators.specs.Generators.{at, isBusy}
 use Rattle.changes.specs.Changes.{withStates}
 use Rattle.masking.specs.Masking.{isNewlyMasked, masked}
 
+-- a rule that gives 0 from n on
+zeros-on : (f : ℕ → ℕ) (n k : ℕ) → ((j : ℕ) → n ≤ j → f j ≡ 0) → upTo f n ++ replicate k 0 ≡ upTo f (n + k)
+unfolding upTo
+zeros-on f n zero h = rw add-zero (append-nil (upTo f n))
+zeros-on f n (suc k) h =
+    let e : n + suc k ≡ suc n + k = omega arith in
+    ap (λ (x : ℕ). upTo f n ++ (x ∷ replicate k 0)) (sym (h n (omega arith)))
+    ∙ sym (append-assoc (upTo f n) (f n ∷ []) (replicate k 0))
+    ∙ zeros-on f (suc n) k (λ j l. h j (omega arith))
+    ∙ ap (upTo f) (sym e)
+
 module _ (p : ℕ) (old new : Table) where
+  pub marks-end : upTo (λ c. bit (isNewlyMasked p old new c)) 17 ++ replicate 47 0 ≡ upTo (λ c. bit (isNewlyMasked p old new c)) 64
+  marks-end = zeros-on (λ (c : ℕ). bit (isNewlyMasked p old new c)) 17 47 (λ c k. rw (lt-leb c 16 (omega arith), and-false (leb 1 c)))
+
   abbrev marks : List ℕ
   marks = upTo (λ c. bit (isNewlyMasked p old new c)) 64
 

@@ -15,26 +15,20 @@ use table::Table;
 fn is_newly_masked(p: u8, old: Table, new: Table, c: u8) -> bool
     ensures { λ r. ⌜ r ≡ isNewlyMasked p old new c ⌝ }
 {
-    ((1 <= c) & (c <= 16)) & (!shares::masks(old, p, c) & shares::masks(new, p, c))
+    shares::is_channel(c) & (!shares::masks(old, p, c) & shares::masks(new, p, c))
 }
 
-// A mark, 1, for each newly masked channel, by its number.
+// A mark, 1, for each newly masked channel, by its number; what is above 16 is no channel and keeps 0.
 fn marks(p: u8, old: Table, new: Table) -> [u8; 64]
     ensures { λ r. ⌜ r ≡ upTo (λ c. bit (isNewlyMasked p old new c)) 64 ⌝ }
 {
     let mut out = [0u8; 64];
     let mut i: usize = 0;
-    while i < 64 {
+    while i < 17 {
         out[i] = loops::one(is_newly_masked(p, old, new, i as u8));
         i += 1;
     }
     out
-}
-
-fn is_busy(state: u8) -> bool
-    ensures { λ r. ⌜ r ≡ isBusy (generator state 0 0) ⌝ }
-{
-    (state == generators::HELD) | (state == generators::SUSTAINED)
 }
 
 // The states after the busy generators of marked channels were released.
@@ -44,7 +38,7 @@ fn release(state: [u8; 64], channel: [u8; 64], marks: [u8; 64]) -> [u8; 64]
     let mut out = state;
     let mut i: usize = 0;
     while i < 64 {
-        let gone = is_busy(state[i]) & (loops::element(marks, channel[i]) != 0);
+        let gone = generators::is_busy(state[i]) & (loops::element(marks, channel[i]) != 0);
         out[i] = loops::if_else(gone, generators::RELEASING, state[i]);
         i += 1;
     }

@@ -22,6 +22,7 @@ use Rattle.instrument.specs.Instrument.{channelOf, withChannel, withGenerators,
 use Rattle.playing.specs.declared.Answer.{Answer}
 use Rattle.playing.specs.declared.Answer.the-variants.{Nothing, Done, Note, NoNote, Number}
 use Rattle.playing.specs.declared.Reply.{Reply}
+use Rattle.playing.specs.declared.Sounded.{Sounded}
 
 -- "note (channel, key, generator, what the generator was ..)", or number 10 or 11
 abbrev pub replyOf : Taken → ℕ → ℕ → Answer
@@ -34,6 +35,10 @@ noteReply i c k a = record { answer = replyOf (a .taken) c k; instrument = withG
 -- note-on, velocity above 0
 unfoldable pub playNoteOn : Instrument → ℕ → ℕ → Reply
 playNoteOn i c k = noteReply i c k (noteOn (i .generators) (i .table) (i .polyphony) (isRhythm i c) c k)
+
+-- what a note-on can change
+abbrev pub soundedOf : Reply → Sounded
+soundedOf r = record { answer = r .answer; generators = r .instrument .generators }
 
 -- "Note-off, or velocity 0 .. On channel 10 it changes nothing"
 unfoldable pub playNoteOff : Instrument → ℕ → ℕ → Instrument

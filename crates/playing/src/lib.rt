@@ -1,7 +1,7 @@
 // What a complete channel message does to the sound module, and what it answers (document 01, "Note-on" and "Other messages"), by value, for every value.
 // Masking stops note-ons and nothing else. Assumes nothing.
 ghost use mathlib.Core.Path.{_≡_};
-ghost use Rattle.playing.specs.Playing.{notesAfter, playNoteOn, playNoteOff, playControl, replyOf, done, played};
+ghost use Rattle.playing.specs.Playing.{notesAfter, soundedOf, playNoteOn, playNoteOff, playControl, replyOf, done, played};
 use allocation::Taken;
 use allocation::Was;
 use changes::Change;
@@ -29,6 +29,12 @@ pub struct Reply {
     pub instrument: Instrument,
 }
 
+// The answer to a note-on, and the generators after it.
+pub struct Sounded {
+    pub answer: Answer,
+    pub generators: Generators,
+}
+
 // What a controller does to notes: the pedal, 120, 121 and 123.
 fn notes_after(s: Generators, pedal: bool, channel: u8, n: u8, v: u8) -> Generators
     ensures { λ r. ⌜ r ≡ notesAfter pedal channel n v s ⌝ }
@@ -50,7 +56,7 @@ fn control(i: Instrument, channel: u8, n: u8, v: u8) -> Instrument
 {
     let pedal = i.pedal_down(channel) & !i.is_rhythm(channel);
     let after = notes_after(i.generators, pedal, channel, n, v);
-    let x = i.channel_of(channel).control(n, v);
+    let x = controllers::control(i.channel_of(channel), n, v);
     i.with_channel(channel, x).with_generators(after)
 }
 
@@ -75,15 +81,28 @@ fn note_answer(taken: Taken, channel: u8, key: u8) -> Answer
     }
 }
 
-fn note_on(i: Instrument, channel: u8, key: u8) -> Reply
-    ensures { λ r. ⌜ r ≡ playNoteOn i channel key ⌝ }
+// A note-on with a velocity above 0. It changes the generators alone, so that a caller can leave the rest of the record where it is.
+pub fn sound(i: Instrument, channel: u8, key: u8) -> Sounded
+    ensures { λ r. ⌜ r ≡ soundedOf (playNoteOn i channel key) ⌝ }
 {
     let rhythm = i.is_rhythm(channel);
     let a = allocation::note_on(i.generators, i.table, i.polyphony, rhythm, channel, key);
     let taken = a.taken;
     let after = a.generators;
-    Reply {
+    Sounded {
         answer: note_answer(taken, channel, key),
+        generators: after,
+    }
+}
+
+fn note_on(i: Instrument, channel: u8, key: u8) -> Reply
+    ensures { λ r. ⌜ r ≡ playNoteOn i channel key ⌝ }
+{
+    let s = sound(i, channel, key);
+    let answer = s.answer;
+    let after = s.generators;
+    Reply {
+        answer: answer,
         instrument: i.with_generators(after),
     }
 }

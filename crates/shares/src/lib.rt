@@ -1,7 +1,7 @@
 // Masks and shares: which channels of a table may play among P generators, and how many notes each is sure of (document 01, "MIP table, masks, shares").
 // By value, for every table value and every P. Assumes nothing.
 ghost use mathlib.Core.Path.{_≡_};
-ghost use Rattle.shares.specs.Shares.{shareOf, isMasked, isChannel, maskQuery, shareQuery};
+ghost use Rattle.shares.specs.Shares.{shareOf, isMasked, isChannel};
 use loops::at_most;
 use loops::less;
 use table::Table;
@@ -60,31 +60,8 @@ pub fn masks(t: Table, p: u8, c: u8) -> bool
     }
 }
 
-pub fn mask_query(t: Table, p: u8, c: u8) -> MaskAnswer
-    ensures { λ r. ⌜ r ≡ maskQuery t p c ⌝ }
-{
-    if is_channel(c) {
-        return match share_of(t, p, c) {
-            Share::Masked => MaskAnswer::IsMasked,
-            Share::Units(_) => MaskAnswer::IsUnmasked,
-        };
-    }
-    MaskAnswer::NoSuchChannel
-}
-
-pub fn share_query(t: Table, p: u8, c: u8) -> ShareAnswer
-    ensures { λ r. ⌜ r ≡ shareQuery t p c ⌝ }
-{
-    if is_channel(c) {
-        return match share_of(t, p, c) {
-            Share::Masked => ShareAnswer::ShareIs(0),
-            Share::Units(n) => ShareAnswer::ShareIs(n),
-        };
-    }
-    ShareAnswer::NotAChannel
-}
-
-fn is_channel(c: u8) -> bool
+// Whether a number is a channel's.
+pub fn is_channel(c: u8) -> bool
     ensures { λ r. ⌜ r ≡ isChannel c ⌝ }
 {
     (1 <= c) & (c <= 16)

@@ -1,7 +1,7 @@
 // What a byte means: a stream of MIDI bytes split into messages (document 01, "Bytes"), by value, for every parser value and every byte.
 // It knows neither the polyphony nor the own ID nor the table. Assumes nothing.
 ghost use mathlib.Core.Path.{_≡_};
-ghost use Rattle.splitter.specs.Split.{begun, quiet, stored, oneDataByte, completed, ended, statusByte, split};
+ghost use Rattle.splitter.specs.Split.{begun, quiet, stored, oneDataByte, atLast, completed, dataByte, ended, split};
 use loops::if_else;
 
 // Between two bytes: the status byte in force, 0 for none (F0 while a SysEx is open, F1 to F3 while data bytes are swallowed), the number of
@@ -67,63 +67,84 @@ impl Parser {
         }
     }
 
-    // The byte that completes a message keeps the running status; after F1 to F3 there is none.
-    fn complete(self, b: u8) -> Split
-        ensures { λ r. ⌜ r ≡ completed self b ⌝ }
+    // Whether the next data byte is the last that the status in force takes; a SysEx takes any number of them.
+    fn at_last(self) -> bool
+        ensures { λ r. ⌜ r ≡ atLast self ⌝ }
+    {
+        (self.status != 0xF0) & (one_data_byte(self.status) | (self.count != 0))
+    }
+
+    // What the last data byte completes: nothing where F1 to F3 swallow it.
+    fn message(self, b: u8) -> Completed
+        ensures { λ r. ⌜ r ≡ completed self b .completed ⌝ }
     {
         if 0xF0 <= self.status {
-            return Split {
-                parser: Parser::new(),
-                completed: Completed::Nothing,
-            };
+            return Completed::Nothing;
         }
         let one = one_data_byte(self.status);
         let bytes = self.bytes;
-        Split {
-            parser: Parser::begin(self.status),
-            completed: Completed::Message(
-                self.status,
-                if_else(one, b, bytes[0]),
-                if_else(one, 0, b),
-            ),
-        }
+        Completed::Message(self.status, if_else(one, b, bytes[0]), if_else(one, 0, b))
     }
 
-    fn take_status(self, b: u8) -> Split
-        ensures { λ r. ⌜ r ≡ statusByte self b ⌝ }
+    fn data_completes(self, b: u8) -> Completed
+        ensures { λ r. ⌜ r ≡ dataByte self b .completed ⌝ }
     {
+        if self.status < 0x80 {
+            return Completed::Stray;
+        }
+        if self.at_last() {
+            return self.message(b);
+        }
+        Completed::Nothing
+    }
+
+    // What a byte completes.
+    pub fn completes(self, b: u8) -> Completed
+        ensures { λ r. ⌜ r ≡ split self b .completed ⌝ }
+    {
+        if b < 0x80 {
+            return self.data_completes(b);
+        }
+        if b < 0xF8 {
+            return ended(self.status, b);
+        }
+        Completed::Nothing
+    }
+
+    // The byte that completes a message keeps the running status; after F1 to F3 there is none.
+    fn after_data(self, b: u8) -> Self
+        ensures { λ r. ⌜ r ≡ dataByte self b .parser ⌝ }
+    {
+        if self.status < 0x80 {
+            return self;
+        }
+        if self.at_last() {
+            return Parser::begin(if_else(0xF0 <= self.status, 0, self.status));
+        }
+        self.store(b)
+    }
+
+    // The parser after a byte.
+    pub fn after(self, b: u8) -> Self
+        ensures { λ r. ⌜ r ≡ split self b .parser ⌝ }
+    {
+        if b < 0x80 {
+            return self.after_data(b);
+        }
         // Real-time bytes leave everything as it is, running status too.
         if 0xF8 <= b {
-            return Split {
-                parser: self,
-                completed: Completed::Nothing,
-            };
+            return self;
         }
-        Split {
-            parser: Parser::begin(if_else(b < 0xF4, b, 0)),
-            completed: ended(self.status, b),
-        }
+        Parser::begin(if_else(b < 0xF4, b, 0))
     }
 
-    // One byte: the parser after it, and what it completed.
+    // One byte: the parser after it, and what it completed. Two functions, so that who wants one of them does not pay for both.
     pub fn split(self, b: u8) -> Split
         ensures { λ r. ⌜ r ≡ split self b ⌝ }
     {
-        if 0x80 <= b {
-            return self.take_status(b);
-        }
-        if self.status < 0x80 {
-            return Split {
-                parser: self,
-                completed: Completed::Stray,
-            };
-        }
-        if (self.status != 0xF0) & (one_data_byte(self.status) | (self.count != 0)) {
-            return self.complete(b);
-        }
         Split {
-            parser: self.store(b),
-            completed: Completed::Nothing,
+            parser: self.after(b),
+            completed: self.completes(b),
         }
     }
 }

@@ -1,12 +1,9 @@
 // Who loses a note (document 01, "Note-on", step 5): the channel to steal from, for every value of the generators and of the table.
 // Assumes nothing.
 ghost use mathlib.Core.Path.{_≡_};
-ghost use Prim.Native.Nat.{_+_, _-_, _<_};
+ghost use Prim.Native.Nat.{_-_};
 ghost use mathlib.Core.Bool.{_&&_};
-ghost use lib.Dec.{eqb, leb, ltb};
-ghost use lib.ListN.{getD};
-ghost use Rattle.loops.specs.Cases.{if_then_else_, bit};
-ghost use Rattle.table.specs.Table.{entry};
+ghost use lib.Dec.{leb, ltb};
 ghost use Rattle.stealing.specs.Stealing.{counted, stealFrom};
 use generators::Generators;
 use table::Entry;
@@ -18,18 +15,6 @@ pub enum Loser {
     Channel(u8),
     // No channel is over its share.
     Nobody,
-}
-
-// The value before the i-th entry, 0 before the first.
-fn value_before(entries: [Entry; 16], i: usize) -> u8
-    requires { ⌜ i < 16 ⌝ }
-    ensures { λ r. ⌜ r ≡ (if eqb i 0 then 0 else getD entries (i - 1) (entry 0 0) .value) ⌝ }
-{
-    if i == 0 {
-        return 0;
-    }
-    let e = entries[i - 1];
-    e.value
 }
 
 // Whether the channel of entry e, unmasked, is over its share with a new note of channel `new`.
@@ -48,11 +33,14 @@ pub fn steal_from(s: Generators, t: Table, p: u8, new: u8) -> Loser
     ensures { λ r. ⌜ r ≡ stealFrom s t p new ⌝ }
 {
     let entries = t.entries;
-    let mut i = loops::at_most(16, t.count) as usize;
+    let mut i = loops::at_most(16, t.count);
     while 0 < i {
         i -= 1;
-        let e = entries[i];
-        if is_over(s, e, value_before(entries, i), p, new) {
+        let e = entries[i as usize];
+        // The entry before, which the first has not: read here, since a function of the table would copy it for each entry.
+        let x = entries[loops::less(i, 1) as usize];
+        let before = loops::if_else(i == 0, 0, x.value);
+        if is_over(s, e, before, p, new) {
             return Loser::Channel(e.channel);
         }
     }

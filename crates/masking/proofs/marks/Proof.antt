@@ -1,4 +1,4 @@
--- `masking::marks` meets its contract. Invariant: the first i marks are those of the rule, the others 0.
+-- `masking::marks` meets its contract. Invariant: the first i marks are those of the rule, the others 0; from 17 on the rule gives 0 too.
 -- Assumes nothing.
 use Prim.Native.Nat.{ℕ, _≤_, _<_, _-_}
 use mathlib.Core.Path.{_≡_, refl, sym, ap, _∙_}
@@ -6,12 +6,13 @@ use mathlib.Core.Bool.{Bool, _&&_, not}
 use mathlib.Core.List.{List, _++_}
 use native.Mathlib.Omega.{arith}
 use lib.Dec.{eqb}
-use lib.ListN.{length, drop, getD}
+use lib.ListN.{length, drop, getD, replicate}
 use Rattle.loops.specs.Cases.{if_then_else_, bit}
 use Rattle.loops.specs.Passes.{upTo}
-use Rattle.loops.proofs.Fill.{fill-next, fill-end}
+use Rattle.loops.proofs.Fill.{fill-next}
 use Rattle.table.specs.declared.Table.{Table}
 use Rattle.masking.specs.Masking.{isNewlyMasked}
+use Rattle.masking.proofs.Marked.{marks-end}
 use borrow.Author.Needs.{needs}
 use Rattle.masking.proofs.marks.Statement.{statement}
 use Rattle.masking.proofs.marks.Tie as tie
@@ -21,14 +22,14 @@ abbrev rule : ℕ → Table → Table → ℕ → ℕ
 rule p old new c = bit (isNewlyMasked p old new c)
 
 abbrev Inv-loop : tie.InvT-loop
-Inv-loop p old new out₀ i₀ out i = (i ≤ 64) × (length out₀ ≡ 64) × (out ≡ upTo (rule p old new) i ++ drop i out₀)
+Inv-loop p old new out₀ i₀ out i = (i ≤ 17) × (length out₀ ≡ 64) × (out ≡ upTo (rule p old new) i ++ drop i out₀) × (drop 17 out₀ ≡ replicate 47 0)
 
 abbrev μ-loop : tie.MeasureT-loop
-μ-loop p old new out₀ i₀ out i = 64 - i
+μ-loop p old new out₀ i₀ out i = 17 - i
 
 loop-holds : tie.Need-loop-holds Inv-loop μ-loop
 unfolding upTo
-loop-holds c = (omega arith, refl, refl)
+loop-holds c = (omega arith, refl, refl, refl)
 
 cast-is-newly-masked : tie.Need-cast-is-newly-masked Inv-loop μ-loop
 cast-is-newly-masked c = search needs
@@ -53,10 +54,14 @@ loop-again c =
     let l = c .before .before .before .loop in
     let a = c .before .before .before .before .args in
     let x = c .one .ensures .0 ∙ ap bit (c .before .is-newly-masked .ensures) in
-    (omega arith, l .inv .1, fill-next (rule (a .p) (a .old) (a .new)) 0 _ (l .out) (l .i) _ (omega arith) (l .inv .2) x)
+    (omega arith, l .inv .1, fill-next (rule (a .p) (a .old) (a .new)) 0 _ (l .out) (l .i) _ (omega arith) (l .inv .2) x, l .inv .3)
 
 returns : tie.Need-returns Inv-loop μ-loop
-returns c = let l = c .before .loop in fill-end _ _ _ _ 64 (omega arith) (omega arith) (l .inv .2)
+returns c =
+    let l = c .before .loop in
+    let a = c .before .before .args in
+    let e : l .i ≡ 17 = omega arith in
+    l .inv .2 ∙ rw (e, l .inv .3) (marks-end (a .p) (a .old) (a .new))
 
 pub marks-spec : {M : Type 1} → statement M
 marks-spec =

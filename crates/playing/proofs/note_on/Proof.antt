@@ -1,32 +1,19 @@
--- `playing::note_on` meets its contract, by what the allocation says.
+-- `playing::note_on` meets its contract: the generators are those that sound, the rest is as it was.
 -- Assumes nothing.
 use Rattle.playing.specs.Playing.{playNoteOn}
 use borrow.Author.Needs.{needs}
 use Rattle.playing.proofs.note_on.Statement.{statement}
 use Rattle.playing.proofs.note_on.Tie as tie
 
-is-rhythm-requires : tie.Need-is-rhythm-requires
-is-rhythm-requires c κs = search needs
-
-note-on-requires : tie.Need-note-on-requires
-note-on-requires c κs = search needs
-
-note-answer-requires : tie.Need-note-answer-requires
-note-answer-requires c κs = search needs
+sound-requires : tie.Need-sound-requires
+sound-requires c κs = search needs
 
 with-generators-requires : tie.Need-with-generators-requires
 with-generators-requires c κs = search needs
 
 returns : tie.Need-returns
 unfolding playNoteOn
-returns c = simp (c .with-generators .ensures, c .before .note-answer .ensures, c .before .before .before .note-on .ensures, c .before .before .before .before .is-rhythm .ensures)
+returns c = simp (c .with-generators .ensures, c .before .before .sound .ensures)
 
 pub note-on-spec : {M : Type 1} → statement M
-note-on-spec =
-    tie.close
-    (tie.spec
-    is-rhythm-requires
-    note-on-requires
-    note-answer-requires
-    with-generators-requires
-    returns)
+note-on-spec = tie.close (tie.spec sound-requires with-generators-requires returns)

@@ -1,6 +1,6 @@
 -- `stealing::steal_from` meets its contract. Invariant: the answer for the first i entries is the answer for all. The measure is i.
 -- Assumes nothing.
-use Prim.Native.Nat.{ℕ, _≤_, _<_, _-_}
+use Prim.Native.Nat.{_≤_, _<_}
 use mathlib.Core.Path.{_≡_, refl, sym, ap, _∙_}
 use native.Mathlib.Omega.{arith}
 use lib.ListN.{length, take}
@@ -25,9 +25,6 @@ abbrev μ-loop : tie.MeasureT-loop
 at-most-requires : tie.Need-at-most-requires Inv-loop μ-loop
 at-most-requires c κs = search needs
 
-cast-i : tie.Need-cast-i Inv-loop μ-loop
-cast-i c = search needs
-
 loop-holds : tie.Need-loop-holds Inv-loop μ-loop
 loop-holds c =
     let a = c .before .before in
@@ -36,14 +33,29 @@ loop-holds c =
 sub-i : tie.Need-sub-i Inv-loop μ-loop
 sub-i c = search needs
 
+cast-e : tie.Need-cast-e Inv-loop μ-loop
+cast-e c = search needs
+
 mul-e : tie.Need-mul-e Inv-loop μ-loop
 mul-e c = search needs
 
 array-copy-out-e : tie.Need-array-copy-out-e Inv-loop μ-loop
 array-copy-out-e c = search needs
 
-value-before-requires : tie.Need-value-before-requires Inv-loop μ-loop
-value-before-requires c κs = search needs
+less-requires : tie.Need-less-requires Inv-loop μ-loop
+less-requires c κs = search needs
+
+cast-x : tie.Need-cast-x Inv-loop μ-loop
+cast-x c = search needs
+
+mul-x : tie.Need-mul-x Inv-loop μ-loop
+mul-x c = omega (arith, c .less .ensures, c .before .before .before .loop .inv .0)
+
+array-copy-out-x : tie.Need-array-copy-out-x Inv-loop μ-loop
+array-copy-out-x c = omega (arith, c .less .ensures, c .before .before .before .loop .inv .0)
+
+if-else-requires : tie.Need-if-else-requires Inv-loop μ-loop
+if-else-requires c κs = search needs
 
 is-over-requires : tie.Need-is-over-requires Inv-loop μ-loop
 is-over-requires c κs = search needs
@@ -51,11 +63,12 @@ is-over-requires c κs = search needs
 returns : tie.Need-returns Inv-loop μ-loop
 unfolding stealFrom
 returns c =
-    let b = c .before .before .before .before .before in
+    let d = c .before .before in
+    let b = d .before .before .before .before .before in
     let a = b .before .before .before .args in
     let m = b .before .at-most in
-    let h : 0 < b .loop .i = c .before .before .before .before .loop-test .taken in
-    let t = rw (c .before .before .value-before .ensures) at (sym (c .before .is-over .ensures) ∙ c .if1 .taken) in
+    let h : 0 < b .loop .i = d .before .before .before .before .loop-test .taken in
+    let t = rw (d .if-else .ensures, d .before .before .less .ensures) at (sym (c .before .is-over .ensures) ∙ c .if1 .taken) in
     rw (← (take-at-most 16 (a .t .count) (a .t .entries) (b .loop .inv .1)), ← (m .ensures .0))
     (ap toLoser (over-yes (a .p) (counted (a .s) (a .new)) (a .t .entries) (b .loop .i) h (omega arith) _ (b .loop .inv .2) t))
 
@@ -64,10 +77,11 @@ loop-less c = search needs
 
 loop-again : tie.Need-loop-again Inv-loop μ-loop
 loop-again c =
-    let b = c .before .before .before .before .before in
+    let d = c .before .before in
+    let b = d .before .before .before .before .before in
     let a = b .before .before .before .args in
-    let h : 0 < b .loop .i = c .before .before .before .before .loop-test .taken in
-    let t = rw (c .before .before .value-before .ensures) at (sym (c .before .is-over .ensures) ∙ c .if1 .left) in
+    let h : 0 < b .loop .i = d .before .before .before .before .loop-test .taken in
+    let t = rw (d .if-else .ensures, d .before .before .less .ensures) at (sym (c .before .is-over .ensures) ∙ c .if1 .left) in
     (omega arith, b .loop .inv .1, over-no (a .p) (counted (a .s) (a .new)) (a .t .entries) (b .loop .i) h (omega arith) _ (b .loop .inv .2) t)
 
 returns-2 : tie.Need-returns-2 Inv-loop μ-loop
@@ -86,12 +100,16 @@ steal-from-spec =
     Inv-loop
     μ-loop
     at-most-requires
-    cast-i
     loop-holds
     sub-i
+    cast-e
     mul-e
     array-copy-out-e
-    value-before-requires
+    less-requires
+    cast-x
+    mul-x
+    array-copy-out-x
+    if-else-requires
     is-over-requires
     returns
     loop-less

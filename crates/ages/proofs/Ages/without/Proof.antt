@@ -9,8 +9,8 @@ use lib.ListN.{length}
 use borrow.Author.Needs.{needs}
 use Rattle.loops.specs.Passes.{filterBy, padded}
 use Rattle.loops.proofs.Compact.{kept, kept-count, kept-next}
-use Rattle.ages.specs.Ages.{unmarked}
-use Rattle.ages.proofs.Orders.{without-end}
+use Rattle.ages.specs.Ages.{unmarked, without}
+use Rattle.ages.proofs.Orders.{kept-end}
 use Rattle.ages.proofs.Sizes.{generator-64}
 use Rattle.ages.proofs.Ages.without.Statement.{statement}
 use Rattle.ages.proofs.Ages.without.Tie as tie
@@ -80,13 +80,14 @@ loop-again c =
     (omega arith, l .inv .1, l .inv .2, omega (arith, c .one .ensures .1), rw (c .one .ensures .0) q, rw (c .before .if-else .ensures) r)
 
 returns : tie.Need-returns Inv-loop μ-loop
+unfolding without
 returns c =
     let b = c .before in
     let l = b .loop in
     let a = b .before .before .before .args in
     let n = b .before .at-most in
     let e : l .i ≡ n .result = omega arith in
-    without-end (a .self) (a .marks) (l .i) (l .m) (l .kept) (l .inv .2) (e ∙ n .ensures .0) (l .inv .4) (l .inv .5)
+    kept-end (unmarked (a .marks)) (a .self) (l .i) (l .m) (l .kept) (l .inv .2) (e ∙ n .ensures .0) (l .inv .4) (l .inv .5)
 
 pub without-spec : {M : Type 1} → statement M
 without-spec =

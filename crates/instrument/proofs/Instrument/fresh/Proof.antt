@@ -8,15 +8,15 @@ use Rattle.instrument.proofs.Instrument.fresh.Tie as tie
 start-requires : tie.Need-start-requires
 start-requires c κs = search needs
 
-fresh-channels-requires : tie.Need-fresh-channels-requires
-fresh-channels-requires c κs = search needs
+fresh-requires : tie.Need-fresh-requires
+fresh-requires c κs = search needs
 
 silent-requires : tie.Need-silent-requires
 silent-requires c κs = search needs
 
 returns : tie.Need-returns
 unfolding fresh
-returns c = simp (c .silent .ensures, c .before .fresh-channels .ensures, c .before .before .start .ensures)
+returns c = simp (c .silent .ensures, c .before .fresh .ensures, c .before .before .start .ensures)
 
 pub fresh-spec : {M : Type 1} → statement M
-fresh-spec = tie.close (tie.spec start-requires fresh-channels-requires silent-requires returns)
+fresh-spec = tie.close (tie.spec start-requires fresh-requires silent-requires returns)

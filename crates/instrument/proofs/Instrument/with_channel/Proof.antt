@@ -1,6 +1,9 @@
--- `instrument::Instrument::with_channel` meets its contract.
+-- `instrument::Instrument::with_channel` meets its contract: the channels are those that `replace` gives, all else is as it was.
 -- Assumes nothing.
-use Rattle.instrument.specs.Instrument.{withChannel}
+use mathlib.Core.Path.{ap, _∙_}
+use Prim.Native.Nat.{ℕ}
+use Rattle.channels.specs.Channel.{replaced}
+use Rattle.instrument.specs.Instrument.{withChannels, withChannel}
 use borrow.Author.Needs.{needs}
 use Rattle.instrument.proofs.Instrument.with_channel.Statement.{statement}
 use Rattle.instrument.proofs.Instrument.with_channel.Tie as tie
@@ -13,7 +16,9 @@ replace-requires c κs = search needs
 
 returns : tie.Need-returns
 unfolding withChannel
-returns c = simp (c .replace .ensures, c .before .less .ensures)
+returns c =
+    let a = c .before .before .before .args in
+    ap (withChannels (a .self)) (c .replace .ensures ∙ ap (λ (k : ℕ). replaced (a .self .channels) k (a .x)) (c .before .less .ensures))
 
 pub with-channel-spec : {M : Type 1} → statement M
 with-channel-spec = tie.close (tie.spec less-requires replace-requires returns)

@@ -1,0 +1,123 @@
+-- `ages::Ages::but` meets its contract. Invariant: with a 0 put at m the array holds the other ones among the first i, and 0 behind them; m is their number.
+-- The measure is what is left of the order.
+-- Assumes nothing.
+use Prim.Native.Nat.{_≤_, _<_, _-_}
+use mathlib.Core.Path.{_≡_, refl, sym, _∙_}
+use native.Mathlib.Omega.{arith}
+use lib.ListN.{length, set, getD, length-set}
+use lib.Seq.{set-out}
+use borrow.Author.Needs.{needs}
+use Rattle.loops.specs.Passes.{filterBy, padded}
+use Rattle.loops.proofs.Compact.{kept, kept-count}
+use Rattle.ages.specs.Ages.{otherThan}
+use Rattle.ages.proofs.Orders.{kept-end, loose-next}
+use Rattle.ages.proofs.Sizes.{generator-64}
+use Rattle.ages.proofs.Ages.but.Statement.{statement}
+use Rattle.ages.proofs.Ages.but.Tie as tie
+
+abbrev Inv-loop : tie.InvT-loop
+Inv-loop g order all kept₀ m₀ i₀ out m i =
+    (i ≤ all)
+    × (all ≤ 64)
+    × (length order ≡ 64)
+    × (m ≤ i)
+    × (m ≡ length (kept (otherThan g) 0 64 order i))
+    × (length out ≡ 64)
+    × (set out m 0 ≡ padded 64 0 (kept (otherThan g) 0 64 order i))
+
+abbrev μ-loop : tie.MeasureT-loop
+μ-loop g order all kept₀ m₀ i₀ out m i = all - i
+
+at-most-requires : tie.Need-at-most-requires Inv-loop μ-loop
+at-most-requires c κs = search needs
+
+cast-all : tie.Need-cast-all Inv-loop μ-loop
+cast-all c = search needs
+
+loop-holds : tie.Need-loop-holds Inv-loop μ-loop
+unfolding filterBy padded
+loop-holds c =
+    let a = c .before .before in
+    (omega arith, c .at-most .ensures .1, generator-64 (a .args .self) (a .good .0), omega arith, refl, refl, refl)
+
+array-read-h : tie.Need-array-read-h Inv-loop μ-loop
+array-read-h c = search needs
+
+cast-at : tie.Need-cast-at Inv-loop μ-loop
+cast-at c = search needs
+
+array-write-kept : tie.Need-array-write-kept Inv-loop μ-loop
+array-write-kept c = search needs
+
+one-requires : tie.Need-one-requires Inv-loop μ-loop
+one-requires c κs = search needs
+
+add-m : tie.Need-add-m Inv-loop μ-loop
+add-m c = search needs
+
+add-i : tie.Need-add-i Inv-loop μ-loop
+add-i c = search needs
+
+loop-less : tie.Need-loop-less Inv-loop μ-loop
+loop-less c = search needs
+
+loop-again : tie.Need-loop-again Inv-loop μ-loop
+loop-again c =
+    let b = c .before .before in
+    let l = b .loop in
+    let a = b .before .before .before .args in
+    let order = a .self .generator in
+    let p = otherThan (a .g) in
+    let h : l .i < length order = omega arith in
+    let k : l .i < 64 = omega arith in
+    let q = kept-count p 0 64 order (l .i) (l .m) (padded 64 0 (kept p 0 64 order (l .i))) (p (getD order (l .i) 0)) h k refl (l .inv .4) refl in
+    let r = loose-next p order (l .i) (l .m) (l .kept) h k (l .inv .4) (l .inv .6) in
+    let s = length-set (l .kept) (l .m) (getD order (l .i) 0) in
+    (omega arith, l .inv .1, l .inv .2, omega (arith, c .one .ensures .1), rw (c .one .ensures .0) q, s ∙ l .inv .5, rw (c .one .ensures .0) r)
+
+cast-end : tie.Need-cast-end Inv-loop μ-loop
+cast-end c = search needs
+
+returns : tie.Need-returns Inv-loop μ-loop
+returns c =
+    let b = c .before .before in
+    let l = b .loop in
+    let a = b .before .before .before .args in
+    let n = b .before .at-most in
+    let e : l .i ≡ n .result = omega arith in
+    let o = sym (set-out (l .kept) (l .m) 0 (omega (arith, c .if1 .taken))) ∙ l .inv .6 in
+    kept-end (otherThan (a .g)) (a .self) (l .i) (l .m) (l .kept) (l .inv .2) (e ∙ n .ensures .0) (l .inv .4) o
+
+array-write-kept-2 : tie.Need-array-write-kept-2 Inv-loop μ-loop
+array-write-kept-2 c = search needs
+
+returns-2 : tie.Need-returns-2 Inv-loop μ-loop
+returns-2 c =
+    let b = c .before .before in
+    let l = b .loop in
+    let a = b .before .before .before .args in
+    let n = b .before .at-most in
+    let e : l .i ≡ n .result = omega arith in
+    kept-end (otherThan (a .g)) (a .self) (l .i) (l .m) (set (l .kept) (l .m) 0) (l .inv .2) (e ∙ n .ensures .0) (l .inv .4) (l .inv .6)
+
+pub but-spec : {M : Type 1} → statement M
+but-spec =
+    tie.close
+    (tie.spec
+    Inv-loop
+    μ-loop
+    at-most-requires
+    cast-all
+    loop-holds
+    array-read-h
+    cast-at
+    array-write-kept
+    one-requires
+    add-m
+    add-i
+    loop-less
+    loop-again
+    cast-end
+    returns
+    array-write-kept-2
+    returns-2)

@@ -1,0 +1,3 @@
+-- What the proofs of this crate share: of elements (Elements), and the length of an array (Sizes).
+pub mod Elements
+pub mod Sizes

@@ -1,0 +1,3 @@
+-- Laws that the proofs of the code cite: of the length (Length), of the loop over the pairs (Pairs).
+pub mod Length
+pub mod Pairs

@@ -1,0 +1,30 @@
+-- `mip::push` meets its contract, for a full table and for one with room.
+-- Assumes nothing.
+use borrow.Author.Needs.{needs}
+use borrow.Author.Tests.{le-leb, lt-leb}
+use Rattle.table.specs.Table.{pushed}
+use Rattle.mip.proofs.push.Statement.{statement}
+use Rattle.mip.proofs.push.Tie as tie
+
+returns : tie.Need-returns
+unfolding pushed
+returns c = simp (le-leb _ _ (c .if1 .taken))
+
+cast-entries : tie.Need-cast-entries
+cast-entries c = search needs
+
+mul-entries : tie.Need-mul-entries
+mul-entries c = search needs
+
+array-set-from-entries : tie.Need-array-set-from-entries
+array-set-from-entries c = search needs
+
+add-t10 : tie.Need-add-t10
+add-t10 c = search needs
+
+returns-2 : tie.Need-returns-2
+unfolding pushed
+returns-2 c = simp (lt-leb _ _ (c .before .if1 .left))
+
+pub push-spec : {M : Type 1} → statement M
+push-spec = tie.close (tie.spec returns cast-entries mul-entries array-set-from-entries add-t10 returns-2)

@@ -1,0 +1,116 @@
+// The judgement of a MIP message (document 01, "MIP table, masks, shares"; numbers 5 to 9), by the parser that its F7 found, for every value of it.
+// Assumes nothing.
+ghost use mathlib.Core.Path.{_≡_};
+ghost use Prim.Native.Nat.{_≤_};
+ghost use lib.ListN.{drop};
+ghost use Rattle.table.specs.Table.{entriesOf, listed, pushed};
+ghost use Rattle.splitter.specs.Split.{body};
+ghost use Rattle.sysex.specs.SysEx.{pairs, refused, judgedPairs, judged};
+use splitter::Parser;
+use sysex::Judged;
+use sysex::Verdict;
+use table::Entry;
+use table::Table;
+
+// A table of no entry.
+const EMPTY: Table = Table {
+    count: 0,
+    entries: [Entry {
+        channel: 0,
+        value: 0,
+    }; 16],
+};
+
+// Whether a table lists channel c.
+fn lists(t: Table, c: u8) -> bool
+    ensures { λ r. ⌜ r ≡ listed c (entriesOf t) ⌝ }
+{
+    let entries = t.entries;
+    let n = loops::at_most(16, t.count) as usize;
+    let mut i: usize = 0;
+    while i < n {
+        let e = entries[i];
+        if c == e.channel {
+            return true;
+        }
+        i += 1;
+    }
+    false
+}
+
+// One entry more, of the lowest priority; a full table stays as it is.
+fn push(t: Table, e: Entry) -> Table
+    ensures { λ r. ⌜ r ≡ pushed t e ⌝ }
+{
+    let n = t.count;
+    if 16 <= n {
+        return t;
+    }
+    let mut entries = t.entries;
+    entries[n as usize] = e;
+    Table {
+        count: n + 1,
+        entries: entries,
+    }
+}
+
+fn refuse(number: u8) -> Judged
+    ensures { λ r. ⌜ r ≡ refused number ⌝ }
+{
+    Judged {
+        verdict: Verdict::Refused(number),
+        table: EMPTY,
+    }
+}
+
+// Numbers 7 to 9, pair by pair: the pairs of parser p start after the four bytes of the head. A last byte without a partner is not looked at.
+fn judge_pairs(p: Parser) -> Judged
+    requires { ⌜ p .count ≤ 36 ⌝ }
+    ensures { λ r. ⌜ r ≡ judgedPairs (pairs (drop 4 (body p))) ⌝ }
+{
+    let bytes = p.bytes;
+    let n = p.count as usize;
+    let mut t = EMPTY;
+    let mut before: u8 = 0;
+    let mut i: usize = 4;
+    while i + 1 < n {
+        let m = bytes[i];
+        let v = bytes[i + 1];
+        if 15 < m {
+            return refuse(7);
+        }
+        let c = m + 1;
+        if lists(t, c) {
+            return refuse(8);
+        }
+        if v < before {
+            return refuse(9);
+        }
+        let e = Entry {
+            channel: c,
+            value: v,
+        };
+        let next = push(t, e);
+        t = next;
+        before = v;
+        i += 2;
+    }
+    Judged {
+        verdict: Verdict::Accepted,
+        table: t,
+    }
+}
+
+// The MIP message of parser p, over the whole of it.
+pub fn judge(p: Parser) -> Judged
+    ensures { λ r. ⌜ r ≡ judged (drop 4 (body p)) ⌝ }
+{
+    let n = p.count;
+    if 36 < n {
+        return refuse(5);
+    }
+    if (n <= 4) | (n % 2 == 1) {
+        return refuse(6);
+    }
+    judge_pairs(p)
+}
