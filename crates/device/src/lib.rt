@@ -78,7 +78,7 @@ fn reply(answer: Answer, i: Instrument) -> Reply
 fn mip(i: Instrument, p: Parser) -> Reply
     ensures { λ r. ⌜ r ≡ mipTaken i (body p) ⌝ }
 {
-    let j = sysex::judge(p);
+    let j = mip::judge(p);
     let t = j.table;
     let v = j.verdict;
     match v {
@@ -100,7 +100,7 @@ fn take_sysex(i: Instrument, p: Parser) -> Reply
 }
 
 // What a byte completed, with parser p as the byte found it.
-fn take(i: Instrument, p: Parser, c: Completed) -> Reply
+pub fn take(i: Instrument, p: Parser, c: Completed) -> Reply
     ensures { λ r. ⌜ r ≡ heard i p c ⌝ }
 {
     match c {

@@ -3,6 +3,7 @@ ghost use mathlib.Core.Path.{_≡_};
 ghost use Rattle.queries.specs.Queries.{generatorQuery, deviceMask, deviceShare};
 use device::Device;
 use shares::MaskAnswer;
+use shares::Share;
 use shares::ShareAnswer;
 
 // The answer to a query of a generator.
@@ -36,16 +37,28 @@ pub fn generator_query(d: Device, g: u8) -> GeneratorAnswer
 pub fn mask_query(d: Device, c: u8) -> MaskAnswer
     ensures { λ r. ⌜ r ≡ deviceMask d c ⌝ }
 {
-    let i = d.instrument;
-    let t = i.table;
-    shares::mask_query(t, i.polyphony, c)
+    if shares::is_channel(c) {
+        let i = d.instrument;
+        let t = i.table;
+        if shares::masks(t, i.polyphony, c) {
+            return MaskAnswer::IsMasked;
+        }
+        return MaskAnswer::IsUnmasked;
+    }
+    MaskAnswer::NoSuchChannel
 }
 
 // The share of channel c, 0 if it is masked.
 pub fn share_query(d: Device, c: u8) -> ShareAnswer
     ensures { λ r. ⌜ r ≡ deviceShare d c ⌝ }
 {
-    let i = d.instrument;
-    let t = i.table;
-    shares::share_query(t, i.polyphony, c)
+    if shares::is_channel(c) {
+        let i = d.instrument;
+        let t = i.table;
+        return match shares::share_of(t, i.polyphony, c) {
+            Share::Masked => ShareAnswer::ShareIs(0),
+            Share::Units(n) => ShareAnswer::ShareIs(n),
+        };
+    }
+    ShareAnswer::NotAChannel
 }

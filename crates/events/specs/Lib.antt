@@ -1,0 +1,2 @@
+-- The device by its events.
+pub mod Events

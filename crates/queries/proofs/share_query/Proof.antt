@@ -1,0 +1,49 @@
+-- `queries::share_query` meets its contract: the channel's test, then the two cases of the share.
+-- Assumes nothing.
+use mathlib.Core.Path.{sym, _∙_}
+use borrow.Author.Needs.{needs}
+use Rattle.shares.specs.Shares.{shareQuery}
+use Rattle.queries.proofs.share_query.Statement.{statement}
+use Rattle.queries.proofs.share_query.Tie as tie
+
+is-channel-requires : tie.Need-is-channel-requires
+is-channel-requires c κs = search needs
+
+share-of-requires : tie.Need-share-of-requires
+share-of-requires c κs = search needs
+
+enum-told : tie.Need-enum-told
+enum-told c = search needs
+
+enum-known-n : tie.Need-enum-known-n
+enum-known-n c = search needs
+
+returns : tie.Need-returns
+unfolding shareQuery
+returns c =
+    let b = c .before .before in
+    let d = b .before .before .before in
+    simp (sym (d .before .is-channel .ensures) ∙ d .if1 .taken, sym (b .share-of .ensures) ∙ c .enum-told .given .1)
+
+returns-2 : tie.Need-returns-2
+unfolding shareQuery
+returns-2 c =
+    let b = c .before .before .before in
+    let d = b .before .before .before in
+    simp (sym (d .before .is-channel .ensures) ∙ d .if1 .taken, sym (b .share-of .ensures) ∙ c .before .n .given .1)
+
+returns-3 : tie.Need-returns-3
+unfolding shareQuery
+returns-3 c = simp (sym (c .before .is-channel .ensures) ∙ c .if1 .left)
+
+pub share-query-spec : {M : Type 1} → statement M
+share-query-spec =
+    tie.close
+    (tie.spec
+    is-channel-requires
+    share-of-requires
+    enum-told
+    enum-known-n
+    returns
+    returns-2
+    returns-3)

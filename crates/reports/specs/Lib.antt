@@ -1,0 +1,2 @@
+-- The reports of the tone generator.
+pub mod Reports

@@ -1,0 +1,22 @@
+-- Document 01, "Other messages": "The tone generator reports the end of generator g: a sounding one becomes idle, with answer done."
+use Prim.Native.Nat.{ℕ}
+use lib.Dec.{leb}
+use Rattle.loops.specs.Cases.{if_then_else_}
+use Rattle.generators.specs.Generators.{at, isIdle}
+use Rattle.silence.specs.declared.Leaving.the-variants.{One}
+use Rattle.silence.specs.Silence.{silenced}
+use Rattle.instrument.specs.declared.Instrument.{Instrument}
+use Rattle.instrument.specs.Instrument.{withGenerators}
+use Rattle.playing.specs.declared.Answer.{Answer}
+use Rattle.playing.specs.declared.Answer.the-variants.{Done, Number}
+use Rattle.playing.specs.declared.Reply.{Reply}
+
+abbrev pub replied : Answer → Instrument → Reply
+replied a i = record { answer = a; instrument = i }
+
+-- number 12: "generator P or above"; number 13: "idle generator"; both change nothing; "12 before 13"
+unfoldable pub reported : Instrument → ℕ → Reply
+reported i g =
+    if leb (i .polyphony) g then replied (Number 12) i else
+    if isIdle (at (i .generators) g) then replied (Number 13) i else
+    replied Done (withGenerators i (silenced (One g) (i .generators)))
