@@ -1,0 +1,9 @@
+pub mod Playable
+pub mod Sees
+pub mod Pigeons
+pub mod Choose
+pub mod Matches
+pub mod Steps
+pub mod Run
+pub mod Age
+pub mod Bytes

@@ -1,0 +1,3 @@
+-- Demand 3: the note book, the claim about every list, and the order of age over it.
+pub mod Demand3
+pub mod Age
