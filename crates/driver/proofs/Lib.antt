@@ -1,0 +1,2 @@
+-- What the walks over the lent record share.
+pub mod Lent

@@ -1,0 +1,2 @@
+-- The lent record.
+pub mod Touched

@@ -1,0 +1,54 @@
+-- `muntinorris::answer_numbers` meets its contract, case by case.
+-- Assumes nothing.
+use borrow.Author.Needs.{needs}
+use Rattle.muntinorris.proofs.answer_numbers.Statement.{statement}
+use Rattle.muntinorris.proofs.answer_numbers.Tie as tie
+
+enum-told : tie.Need-enum-told
+enum-told c = search needs
+
+enum-told-2 : tie.Need-enum-told-2
+enum-told-2 c = search needs
+
+enum-known-a : tie.Need-enum-known-a
+enum-known-a c = search needs
+
+was-number-requires : tie.Need-was-number-requires
+was-number-requires c κs = search needs
+
+enum-known-a-2 : tie.Need-enum-known-a-2
+enum-known-a-2 c = search needs
+
+enum-known-a-3 : tie.Need-enum-known-a-3
+enum-known-a-3 c = search needs
+
+returns : tie.Need-returns
+returns c = simp (c .enum-told .given .1)
+
+returns-2 : tie.Need-returns-2
+returns-2 c = simp (c .enum-told2 .given .1)
+
+returns-3 : tie.Need-returns-3
+returns-3 c = simp (c .before .before .a .given .1, c .was-number .ensures)
+
+returns-4 : tie.Need-returns-4
+returns-4 c = simp (c .before .a2 .given .1)
+
+returns-5 : tie.Need-returns-5
+returns-5 c = simp (c .before .a3 .given .1)
+
+pub answer-numbers-spec : {M : Type 1} → statement M
+answer-numbers-spec =
+    tie.close
+    (tie.spec
+    enum-told
+    enum-told-2
+    enum-known-a
+    was-number-requires
+    enum-known-a-2
+    enum-known-a-3
+    returns
+    returns-2
+    returns-3
+    returns-4
+    returns-5)

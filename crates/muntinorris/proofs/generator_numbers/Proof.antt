@@ -1,0 +1,25 @@
+-- `muntinorris::generator_numbers` meets its contract, by what the query answers.
+-- Assumes nothing.
+use mathlib.Core.Path.{sym, _∙_}
+use borrow.Author.Needs.{needs}
+use Rattle.muntinorris.proofs.generator_numbers.Statement.{statement}
+use Rattle.muntinorris.proofs.generator_numbers.Tie as tie
+
+generator-query-requires : tie.Need-generator-query-requires
+generator-query-requires c κs = search needs
+
+enum-known-state : tie.Need-enum-known-state
+enum-known-state c = search needs
+
+enum-told : tie.Need-enum-told
+enum-told c = search needs
+
+returns : tie.Need-returns
+returns c = simp (sym (c .before .before .before .generator-query .ensures) ∙ c .before .state .given .1)
+
+returns-2 : tie.Need-returns-2
+returns-2 c = simp (sym (c .before .before .generator-query .ensures) ∙ c .enum-told .given .1)
+
+pub generator-numbers-spec : {M : Type 1} → statement M
+generator-numbers-spec =
+    tie.close (tie.spec generator-query-requires enum-known-state enum-told returns returns-2)

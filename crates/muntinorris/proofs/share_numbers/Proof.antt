@@ -1,0 +1,25 @@
+-- `muntinorris::share_numbers` meets its contract, by what the query answers.
+-- Assumes nothing.
+use mathlib.Core.Path.{sym, _∙_}
+use borrow.Author.Needs.{needs}
+use Rattle.muntinorris.proofs.share_numbers.Statement.{statement}
+use Rattle.muntinorris.proofs.share_numbers.Tie as tie
+
+share-query-requires : tie.Need-share-query-requires
+share-query-requires c κs = search needs
+
+enum-known-share : tie.Need-enum-known-share
+enum-known-share c = search needs
+
+enum-told : tie.Need-enum-told
+enum-told c = search needs
+
+returns : tie.Need-returns
+returns c = simp (sym (c .before .before .before .share-query .ensures) ∙ c .before .share .given .1)
+
+returns-2 : tie.Need-returns-2
+returns-2 c = simp (sym (c .before .before .share-query .ensures) ∙ c .enum-told .given .1)
+
+pub share-numbers-spec : {M : Type 1} → statement M
+share-numbers-spec =
+    tie.close (tie.spec share-query-requires enum-known-share enum-told returns returns-2)

@@ -1,0 +1,2 @@
+-- The answers in plain numbers.
+pub mod Numbers

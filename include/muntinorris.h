@@ -1,0 +1,180 @@
+/*
+ * Muntinorris: the note allocator of a scalable polyphony module, for C and C++.
+ *
+ * Who owns what. The caller owns the record, struct muntinorris_device, and keeps it in any memory: static, automatic or allocated. The library has no state of its
+ * own, allocates nothing, keeps no pointer after a call returns, and writes nothing but the record that it is lent. A record may be copied by
+ * assignment; the copy is a device of its own.
+ *
+ * Calls. muntinorris_start makes the record, whatever the memory held before. Every other call wants a record that a start made and that only these calls have
+ * written since; on a record with other contents it still returns, and touches no memory but the record, but the answer means nothing. One record is used
+ * by one thread at a time; two records never touch each other.
+ *
+ * A NULL or misaligned pointer, or one to less memory than a record, is the caller's error and is not tested for. (The record is made of bytes alone, so its
+ * alignment is 1 and every address is aligned for it.)
+ *
+ * Channels are 1 to 16, as musicians count them; the wire carries channel minus 1. "Document 01" is the specification, "The note allocator of a scalable
+ * polyphony module". Every call is proved to give exactly the answer and the record of its definition there, for every input.
+ */
+#ifndef MUNTINORRIS_H
+#define MUNTINORRIS_H
+
+#include <stdint.h>
+
+#ifdef __cplusplus
+extern "C" {
+#endif
+
+/* ---- answers ---- */
+
+/* What an answer is. */
+#define MUNTINORRIS_NONE 0   /* the byte completed nothing that counts */
+#define MUNTINORRIS_DONE 1   /* any other complete channel message, an accepted MIP message or reset, an accepted report, a good start */
+#define MUNTINORRIS_NOTE 2   /* a note sounds: its channel and key, its generator, and what the generator was */
+#define MUNTINORRIS_NUMBER 3 /* the number says what was wrong */
+
+/* What the generator of a note was. */
+#define MUNTINORRIS_WAS_IDLE 0
+#define MUNTINORRIS_WAS_RELEASE 1 /* it was releasing: its note had ended */
+#define MUNTINORRIS_WAS_STOLEN 2  /* it was busy: its note is lost */
+
+/* The numbers of document 01, and what each leaves behind. */
+#define MUNTINORRIS_BAD_POLYPHONY 1      /* start: the polyphony is not 1 to 64. A fresh record of polyphony 1 and own ID 0 */
+#define MUNTINORRIS_BAD_ID 2             /* start: the own ID is above 126. The same */
+#define MUNTINORRIS_STRAY_DATA 3         /* a data byte with no status, SysEx or swallowing. No change */
+#define MUNTINORRIS_SYSEX_CUT 4          /* a SysEx was cut by a status below F7. The SysEx is dropped, the status taken */
+#define MUNTINORRIS_MIP_TOO_LONG 5       /* MIP: over 32 bytes after 0B 01. The SysEx is ended and the table kept, as with 6 to 9 */
+#define MUNTINORRIS_MIP_NO_PAIRS 6       /* MIP: none, or an odd number */
+#define MUNTINORRIS_MIP_BAD_CHANNEL 7    /* MIP: a channel byte above 15 */
+#define MUNTINORRIS_MIP_LISTED_TWICE 8   /* MIP: a channel listed twice */
+#define MUNTINORRIS_MIP_FALLING 9        /* MIP: a value below the one before */
+#define MUNTINORRIS_MASKED 10            /* note-on: the channel is masked. The message is consumed, no more */
+#define MUNTINORRIS_NOTHING_TO_STEAL 11  /* note-on: the channel that must give way has no busy generator. As 10 */
+#define MUNTINORRIS_NO_SUCH_GENERATOR 12 /* report or query: the generator's number is the polyphony or above. No change */
+#define MUNTINORRIS_ALREADY_IDLE 13      /* report: the generator is idle. No change */
+#define MUNTINORRIS_NO_SUCH_CHANNEL 14   /* mask or share query: the channel is not 1 to 16. No change */
+
+/*
+ * The answer to a start, a byte or a report. number has a meaning with MUNTINORRIS_NUMBER; channel (1 to 16) and key (0 to 127) with MUNTINORRIS_NOTE and with the numbers 10
+ * and 11; generator and was with MUNTINORRIS_NOTE. A field without meaning is 0.
+ */
+struct muntinorris_answer {
+    uint8_t what;      /* MUNTINORRIS_NONE, _DONE, _NOTE or _NUMBER */
+    uint8_t number;    /* 1 to 14 */
+    uint8_t channel;
+    uint8_t key;
+    uint8_t generator; /* 0 to polyphony - 1 */
+    uint8_t was;       /* MUNTINORRIS_WAS_IDLE, _RELEASE or _STOLEN */
+};
+
+/* The answers to queries. number is 0, or 12 or 14 where the query was refused, and then the other fields are 0. */
+struct muntinorris_generator_answer {
+    uint8_t number;
+    uint8_t state;   /* MUNTINORRIS_STATE_.. */
+    uint8_t channel; /* 1 to 16, 0 while idle */
+    uint8_t key;     /* 0 to 127, 0 while idle */
+};
+
+struct muntinorris_mask_answer {
+    uint8_t number;
+    uint8_t masked; /* 1 masked, 0 not */
+};
+
+struct muntinorris_share_answer {
+    uint8_t number;
+    uint8_t share; /* 0 where the channel is masked */
+};
+
+/* ---- the record ---- */
+
+/* The state of a generator. Held and sustained are busy; all but idle are sounding. */
+#define MUNTINORRIS_STATE_IDLE 0
+#define MUNTINORRIS_STATE_HELD 1      /* its key is down */
+#define MUNTINORRIS_STATE_SUSTAINED 2 /* its key is up and the pedal down */
+#define MUNTINORRIS_STATE_RELEASING 3
+
+/* Between two bytes: the status byte in force, 0 for none, the number of data bytes since (of a SysEx at most 37), and these bytes. */
+struct muntinorris_parser {
+    uint8_t status;
+    uint8_t count;
+    uint8_t bytes[37];
+};
+
+/* A channel of the MIP table, 1 to 16, and the polyphony needed by it and all before it. */
+struct muntinorris_entry {
+    uint8_t channel;
+    uint8_t value;
+};
+
+/* The MIP table: its first `count` entries, by falling priority; the others are 0. */
+struct muntinorris_table {
+    uint8_t count;
+    struct muntinorris_entry entries[16];
+};
+
+/* The eleven numbers of a channel. */
+struct muntinorris_channel {
+    uint8_t program;
+    uint8_t modulation;
+    uint8_t volume;
+    uint8_t pan;
+    uint8_t expression;
+    uint8_t hold;
+    uint8_t rpn_msb;
+    uint8_t rpn_lsb;
+    uint8_t bend_msb;
+    uint8_t bend_lsb;
+    uint8_t sensitivity;
+};
+
+/* The order of assignment: the first `count` numbers are the sounding generators, the oldest first; the others are 0. */
+struct muntinorris_ages {
+    uint8_t count;
+    uint8_t generator[64];
+};
+
+/* The generators by their number: state, channel (1 to 16) and key; those from the polyphony on stay idle. */
+struct muntinorris_generators {
+    uint8_t state[64];
+    uint8_t channel[64];
+    uint8_t key[64];
+    struct muntinorris_ages ages;
+};
+
+/* All but the parser. channels is indexed by the channel minus 1. */
+struct muntinorris_instrument {
+    uint8_t polyphony; /* 1 to 64 */
+    uint8_t id;        /* own device ID, 0 to 126 */
+    struct muntinorris_table table;
+    struct muntinorris_channel channels[16];
+    struct muntinorris_generators generators;
+};
+
+/* The device record, 507 bytes without padding. Anyone may read it; only the calls below write it. */
+struct muntinorris_device {
+    struct muntinorris_parser parser;
+    struct muntinorris_instrument instrument;
+};
+
+/* ---- calls ---- */
+
+/* Makes the record a fresh device: MUNTINORRIS_DONE, or number 1 or 2, after which it is a working device of polyphony 1 and own ID 0. */
+struct muntinorris_answer muntinorris_start(struct muntinorris_device *d, uint8_t polyphony, uint8_t id);
+
+/* A MIDI byte: MUNTINORRIS_NONE, _DONE, _NOTE, or number 3 to 11. */
+struct muntinorris_answer muntinorris_byte(struct muntinorris_device *d, uint8_t byte);
+
+/* The tone generator reports that a generator's sound has ended: MUNTINORRIS_DONE, or number 12 or 13. */
+struct muntinorris_answer muntinorris_report(struct muntinorris_device *d, uint8_t generator);
+
+/* Queries: they change nothing. Number 12 where there is no such generator. */
+struct muntinorris_generator_answer muntinorris_generator(const struct muntinorris_device *d, uint8_t generator);
+
+/* Number 14 where the channel is not 1 to 16. */
+struct muntinorris_mask_answer muntinorris_mask(const struct muntinorris_device *d, uint8_t channel);
+struct muntinorris_share_answer muntinorris_share(const struct muntinorris_device *d, uint8_t channel);
+
+#ifdef __cplusplus
+}
+#endif
+
+#endif

@@ -1,0 +1,149 @@
+//! Safe Rust over Muntinorris, the note allocator of a scalable polyphony module (document 01). Each call is proved, in the library, to give exactly the
+//! answer and the record of its definition, for every value of the record; what is trusted here is that the structs below are those of include/muntinorris.h,
+//! which the repository's tests hold against the library.
+//!
+//! ```
+//! use muntinorris::{Answer, Device, Was};
+//!
+//! let (mut device, answer) = Device::start(1, 0);
+//! assert_eq!(answer, Answer::Done);
+//! let answers: Vec<Answer> = [0x90, 60, 64, 0x99, 36, 64].iter().map(|b| device.byte(*b)).collect();
+//! assert_eq!(answers[2], Answer::Note { channel: 1, key: 60, generator: 0, was: Was::Idle });
+//! assert_eq!(answers[5], Answer::Note { channel: 10, key: 36, generator: 0, was: Was::Stolen });
+//! ```
+use std::mem::MaybeUninit;
+
+pub mod record;
+
+pub use record::Device;
+
+/// What the generator of a note was.
+#[derive(Clone, Copy, Debug, PartialEq, Eq)]
+pub enum Was {
+    Idle,
+    /// It was releasing: its note had ended.
+    Release,
+    /// It was busy: its note is lost.
+    Stolen,
+}
+
+/// The answer to a start, a byte or a report.
+#[derive(Clone, Copy, Debug, PartialEq, Eq)]
+pub enum Answer {
+    /// The byte completed nothing that counts.
+    None,
+    /// Any other complete channel message, an accepted MIP message or reset, an accepted report, a good start.
+    Done,
+    /// A note sounds.
+    Note { channel: u8, key: u8, generator: u8, was: Was },
+    /// Number 10 or 11: a note-on without a generator.
+    NoNote { number: u8, channel: u8, key: u8 },
+    /// Any other number of document 01.
+    Number(u8),
+}
+
+/// The state of a generator.
+#[derive(Clone, Copy, Debug, PartialEq, Eq)]
+pub enum State {
+    Idle,
+    /// Its key is down.
+    Held,
+    /// Its key is up and the pedal down.
+    Sustained,
+    Releasing,
+}
+
+/// A generator; channel and key are 0 while it is idle.
+#[derive(Clone, Copy, Debug, PartialEq, Eq)]
+pub struct Generator {
+    pub state: State,
+    pub channel: u8,
+    pub key: u8,
+}
+
+/// The number of a refused query: 12 or 14.
+#[derive(Clone, Copy, Debug, PartialEq, Eq)]
+pub struct Refused(pub u8);
+
+extern "C" {
+    fn muntinorris_start(d: *mut Device, polyphony: u8, id: u8) -> record::AnswerNumbers;
+    fn muntinorris_byte(d: *mut Device, byte: u8) -> record::AnswerNumbers;
+    fn muntinorris_report(d: *mut Device, generator: u8) -> record::AnswerNumbers;
+    fn muntinorris_generator(d: *const Device, generator: u8) -> record::GeneratorNumbers;
+    fn muntinorris_mask(d: *const Device, channel: u8) -> record::MaskNumbers;
+    fn muntinorris_share(d: *const Device, channel: u8) -> record::ShareNumbers;
+}
+
+impl From<record::AnswerNumbers> for Answer {
+    fn from(n: record::AnswerNumbers) -> Answer {
+        match (n.what, n.number) {
+            (0, _) => Answer::None,
+            (1, _) => Answer::Done,
+            (2, _) => Answer::Note {
+                channel: n.channel,
+                key: n.key,
+                generator: n.generator,
+                was: match n.was {
+                    0 => Was::Idle,
+                    1 => Was::Release,
+                    _ => Was::Stolen,
+                },
+            },
+            (_, number @ (10 | 11)) => Answer::NoNote { number, channel: n.channel, key: n.key },
+            (_, number) => Answer::Number(number),
+        }
+    }
+}
+
+fn answered<T>(number: u8, value: T) -> Result<T, Refused> {
+    if number == 0 {
+        Ok(value)
+    } else {
+        Err(Refused(number))
+    }
+}
+
+impl Device {
+    /// A fresh device: `Done`; or number 1 or 2, and a working device of polyphony 1 and own ID 0.
+    pub fn start(polyphony: u8, id: u8) -> (Device, Answer) {
+        let mut device = MaybeUninit::uninit();
+        // SAFETY: the pointer is to memory for a device, and a start writes the whole of it without reading it.
+        let answer = unsafe { muntinorris_start(device.as_mut_ptr(), polyphony, id) };
+        (unsafe { device.assume_init() }, answer.into())
+    }
+
+    /// A MIDI byte.
+    pub fn byte(&mut self, byte: u8) -> Answer {
+        // SAFETY: the pointer is to a device that nobody else has for the call; every value of it is a record. So below.
+        unsafe { muntinorris_byte(self, byte) }.into()
+    }
+
+    /// The tone generator reports that a generator's sound has ended: `Done`, or number 12 or 13.
+    pub fn report(&mut self, generator: u8) -> Answer {
+        unsafe { muntinorris_report(self, generator) }.into()
+    }
+
+    /// A generator; number 12 if there is none of that number.
+    pub fn generator(&self, generator: u8) -> Result<Generator, Refused> {
+        let n = unsafe { muntinorris_generator(self, generator) };
+        let state = match n.state {
+            0 => State::Idle,
+            1 => State::Held,
+            2 => State::Sustained,
+            _ => State::Releasing,
+        };
+        answered(n.number, Generator { state, channel: n.channel, key: n.key })
+    }
+
+    /// Whether a channel, 1 to 16, is masked; number 14 for any other.
+    pub fn is_masked(&self, channel: u8) -> Result<bool, Refused> {
+        let n = unsafe { muntinorris_mask(self, channel) };
+        answered(n.number, n.masked != 0)
+    }
+
+    /// The share of a channel, 1 to 16, 0 if it is masked; number 14 for any other.
+    pub fn share(&self, channel: u8) -> Result<u8, Refused> {
+        let n = unsafe { muntinorris_share(self, channel) };
+        answered(n.number, n.share)
+    }
+}

@@ -1,0 +1,67 @@
+//! The device from Rust: document 01's examples through the linked library.
+use muntinorris::{Answer, Device, Generator, Refused, State, Was};
+
+fn play(device: &mut Device, bytes: &[u8]) -> Vec<Answer> {
+    bytes.iter().map(|b| device.byte(*b)).filter(|a| *a != Answer::None).collect()
+}
+
+fn note(channel: u8, key: u8, generator: u8, was: Was) -> Answer {
+    Answer::Note { channel, key, generator, was }
+}
+
+#[test]
+fn listing_of_document_01() {
+    let (mut device, answer) = Device::start(2, 0);
+    assert_eq!(answer, Answer::Done);
+    let bytes = [0xF0, 0x7F, 0x7F, 0x0B, 0x01, 0x00, 0x01, 0x01, 0x02, 0xF7, 0x90, 0x3C, 0x40, 0x3E, 0x40, 0x91, 0x40, 0x40, 0x92, 0x40, 0x40];
+    let expected = [
+        Answer::Done,
+        note(1, 60, 0, Was::Idle),
+        note(1, 62, 1, Was::Idle),
+        note(2, 64, 0, Was::Stolen),
+        Answer::NoNote { number: 10, channel: 3, key: 64 },
+    ];
+    assert_eq!(play(&mut device, &bytes), expected);
+    assert_eq!(device.generator(0), Ok(Generator { state: State::Held, channel: 2, key: 64 }));
+    assert_eq!((device.share(1), device.share(2), device.share(3)), (Ok(1), Ok(1), Ok(0)));
+    assert_eq!((device.is_masked(2), device.is_masked(3)), (Ok(false), Ok(true)));
+}
+
+#[test]
+fn refused_starts_leave_a_working_device() {
+    for (polyphony, id, number) in [(0, 0, 1), (65, 127, 1), (4, 127, 2)] {
+        let (mut device, answer) = Device::start(polyphony, id);
+        assert_eq!(answer, Answer::Number(number));
+        assert_eq!((device.instrument().polyphony, device.instrument().id), (1, 0));
+        assert_eq!(play(&mut device, &[0x99, 0x24, 0x40, 0x90, 0x3C, 0x40]), [note(10, 36, 0, Was::Idle), Answer::NoNote { number: 11, channel: 1, key: 60 }]);
+    }
+}
+
+#[test]
+fn reports_and_releases() {
+    let (mut device, _) = Device::start(1, 0);
+    assert_eq!(device.report(0), Answer::Number(13));
+    assert_eq!(device.report(1), Answer::Number(12));
+    assert_eq!(play(&mut device, &[0x90, 60, 64, 60, 0, 61, 64]), [note(1, 60, 0, Was::Idle), Answer::Done, note(1, 61, 0, Was::Release)]);
+    assert_eq!(device.report(0), Answer::Done);
+    assert_eq!(device.generator(0), Ok(Generator { state: State::Idle, channel: 0, key: 0 }));
+}
+
+#[test]
+fn refused_queries() {
+    let (device, _) = Device::start(4, 0);
+    assert_eq!(device.generator(4), Err(Refused(12)));
+    assert_eq!(device.is_masked(0), Err(Refused(14)));
+    assert_eq!(device.share(17), Err(Refused(14)));
+}
+
+#[test]
+fn a_copy_is_a_device_of_its_own() {
+    let (mut device, _) = Device::start(2, 0);
+    play(&mut device, &[0x90, 60, 64]);
+    let mut copy = device.clone();
+    play(&mut copy, &[62, 64]);
+    assert_ne!(device, copy);
+    play(&mut device, &[62, 64]);
+    assert_eq!(device, copy);
+}

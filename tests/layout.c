@@ -1,0 +1,296 @@
+/*
+ * Holds the record of include/muntinorris.h against the library's own. The header says where a field lies; the library shows it by what it writes and reads:
+ *   - a start writes every byte of the record and none beside it, whatever was there before;
+ *   - after a call the memory is what it was but for the fields that document 01 names, each at the header's place;
+ *   - a value put at the header's place is what the next call reads.
+ * With the word `print` it writes each struct's size and each field's place and size instead, for the Rust crate to be held against.
+ */
+#include <stddef.h>
+#include <stdio.h>
+#include <string.h>
+#include "muntinorris.h"
+
+#define MARGIN 64
+static unsigned char memory[MARGIN + sizeof(struct muntinorris_device) + MARGIN];
+static struct muntinorris_device *const device = (struct muntinorris_device *)(memory + MARGIN);
+static struct muntinorris_device want; /* what the record must be after the next call, by the header */
+static struct muntinorris_answer answer;
+static int failures;
+
+static void check(int holds, const char *what)
+{
+    if (!holds) {
+        printf("FAILED: %s\n", what);
+        failures++;
+    }
+}
+
+static void fill(unsigned char pattern)
+{
+    memset(memory, pattern, sizeof memory);
+}
+
+/* The margins still hold the pattern. */
+static int kept(unsigned char pattern)
+{
+    size_t i;
+
+    for (i = 0; i < MARGIN; i++)
+        if (memory[i] != pattern || memory[sizeof memory - 1 - i] != pattern)
+            return 0;
+    return 1;
+}
+
+static void start(uint8_t polyphony, uint8_t id)
+{
+    answer = muntinorris_start(device, polyphony, id);
+    want = *device;
+}
+
+/* A byte, after which the record is what is wanted. */
+static void byte(uint8_t b, const char *what)
+{
+    answer = muntinorris_byte(device, b);
+    check(memcmp(&want, device, sizeof want) == 0 && kept(0xA5), what);
+    want = *device;
+}
+
+/* A byte whose effect on the record is not looked at. */
+static void feed(uint8_t b)
+{
+    answer = muntinorris_byte(device, b);
+    want = *device;
+}
+
+static void starts(void)
+{
+    static const unsigned char patterns[] = {0x00, 0xFF, 0xA5};
+    unsigned i;
+
+    for (i = 0; i < sizeof patterns; i++) {
+        fill(patterns[i]);
+        answer = muntinorris_start(device, 37, 101);
+        check(kept(patterns[i]), "a start writes nothing beside the record");
+        if (i == 0)
+            want = *device;
+        check(memcmp(&want, device, sizeof want) == 0, "a start writes the whole record");
+    }
+    check(device->instrument.polyphony == 37 && device->instrument.id == 101, "polyphony and id");
+    check(answer.what == MUNTINORRIS_DONE, "the answer to a start");
+    want.instrument.id = 102;
+    answer = muntinorris_start(device, 37, 102);
+    check(memcmp(&want, device, sizeof want) == 0, "id alone differs");
+    for (i = 0; i < 16; i++)
+        want.instrument.table.entries[i].value = 38;
+    want.instrument.polyphony = 38;
+    answer = muntinorris_start(device, 38, 102);
+    check(memcmp(&want, device, sizeof want) == 0, "polyphony and the table's values differ");
+}
+
+static void parser(void)
+{
+    unsigned i;
+
+    start(64, 5);
+    want.parser.status = 0x93;
+    byte(0x93, "parser.status");
+    want.parser.count = 1;
+    want.parser.bytes[0] = 0x21;
+    byte(0x21, "parser.count and parser.bytes[0]");
+    want.parser.status = 0xF0;
+    want.parser.count = 0;
+    want.parser.bytes[0] = 0;
+    byte(0xF0, "an open SysEx");
+    for (i = 0; i < 37; i++) {
+        want.parser.count = i + 1;
+        want.parser.bytes[i] = 90 + i;
+        byte(90 + i, "parser.bytes");
+    }
+    memset(&want.parser, 0, sizeof want.parser);
+    byte(0xF7, "a parser at rest");
+    /* reading: a note-on whose first data byte is already there */
+    device->parser.status = 0x94;
+    device->parser.count = 1;
+    device->parser.bytes[0] = 60;
+    feed(100);
+    check(answer.what == MUNTINORRIS_NOTE && answer.channel == 5 && answer.key == 60, "parser.status, count and bytes are read");
+}
+
+/* Controller n of the channel in force, which changes this field and no other. */
+static void controller(uint8_t n, uint8_t v, uint8_t *field, const char *what)
+{
+    *field = v;
+    muntinorris_byte(device, n);
+    byte(v, what);
+}
+
+static void channels(void)
+{
+    unsigned c;
+
+    start(64, 5);
+    for (c = 0; c < 16; c++) {
+        struct muntinorris_channel *w = &want.instrument.channels[c];
+
+        feed(0xB0 + c);
+        controller(1, 30 + c, &w->modulation, "modulation");
+        controller(7, 31 + c, &w->volume, "volume");
+        controller(10, 32 + c, &w->pan, "pan");
+        controller(11, 33 + c, &w->expression, "expression");
+        controller(64, 34 + c, &w->hold, "hold");
+        controller(100, 0, &w->rpn_lsb, "rpn_lsb");
+        controller(101, 0, &w->rpn_msb, "rpn_msb");
+        controller(6, 3 + c, &w->sensitivity, "sensitivity");
+        feed(0xC0 + c);
+        w->program = 50 + c;
+        byte(50 + c, "program");
+        feed(0xE0 + c);
+        w->bend_lsb = 9 + c;
+        muntinorris_byte(device, 9 + c);
+        byte(64, "bend_lsb");
+        w->bend_msb = 70 + c;
+        muntinorris_byte(device, 9 + c);
+        byte(70 + c, "bend_msb");
+    }
+    /* reading: the hold of channel 3 sustains its note */
+    start(64, 5);
+    feed(0x92);
+    feed(60);
+    feed(64);
+    device->instrument.channels[2].hold = 64;
+    want = *device;
+    want.instrument.generators.state[0] = MUNTINORRIS_STATE_SUSTAINED;
+    muntinorris_byte(device, 60);
+    byte(0, "hold is read");
+}
+
+static void table(void)
+{
+    static const uint8_t message[] = {0xF0, 0x7F, 0x7F, 0x0B, 0x01, 3, 5, 1, 7, 8, 60, 15, 64};
+    static const struct muntinorris_entry entries[] = {{4, 5}, {2, 7}, {9, 60}, {16, 64}};
+    unsigned i;
+
+    start(64, 5);
+    for (i = 0; i < sizeof message; i++)
+        feed(message[i]);
+    memset(&want.parser, 0, sizeof want.parser);
+    memset(&want.instrument.table, 0, sizeof want.instrument.table);
+    want.instrument.table.count = 4;
+    memcpy(want.instrument.table.entries, entries, sizeof entries);
+    byte(0xF7, "table.count and table.entries");
+    check(answer.what == MUNTINORRIS_DONE, "an accepted MIP message");
+    /* reading */
+    check(muntinorris_share(device, 9).share == 53 && muntinorris_mask(device, 9).masked == 0, "the table is read");
+    check(muntinorris_mask(device, 1).masked == 1 && muntinorris_share(device, 17).number == MUNTINORRIS_NO_SUCH_CHANNEL, "masks");
+    device->instrument.table.entries[2].value = 50;
+    check(muntinorris_share(device, 9).share == 43, "table.entries[].value is read");
+    device->instrument.table.entries[2].channel = 1;
+    check(muntinorris_share(device, 1).share == 43, "table.entries[].channel is read");
+    device->instrument.table.count = 2;
+    check(muntinorris_mask(device, 1).masked == 1, "table.count is read");
+    device->instrument.polyphony = 6;
+    check(muntinorris_mask(device, 2).masked == 1 && muntinorris_mask(device, 4).masked == 0, "polyphony is read");
+}
+
+static void generators(void)
+{
+    struct muntinorris_generators *w = &want.instrument.generators;
+    unsigned g;
+
+    start(64, 5);
+    for (g = 0; g < 64; g++) {
+        unsigned channel = g % 16 + 1;
+
+        feed(0x90 + g % 16);
+        w->state[g] = MUNTINORRIS_STATE_HELD;
+        w->channel[g] = channel;
+        w->key[g] = 127 - g;
+        w->ages.count = g + 1;
+        w->ages.generator[g] = g;
+        muntinorris_byte(device, 127 - g);
+        byte(64, "a generator's state, channel, key and age");
+        check(answer.what == MUNTINORRIS_NOTE && answer.generator == g && answer.channel == channel && answer.key == 127 - g && answer.was == MUNTINORRIS_WAS_IDLE, "the answer to a note-on");
+    }
+    w->state[63] = w->channel[63] = w->key[63] = 0;
+    w->ages.count = 63;
+    w->ages.generator[63] = 0;
+    answer = muntinorris_report(device, 63);
+    check(memcmp(&want, device, sizeof want) == 0 && answer.what == MUNTINORRIS_DONE, "a report");
+    /* reading */
+    for (g = 0; g < 64; g++) {
+        struct muntinorris_generator_answer a;
+
+        device->instrument.generators.state[g] = 200 - g;
+        device->instrument.generators.channel[g] = 100 + g;
+        device->instrument.generators.key[g] = 50 + g;
+        a = muntinorris_generator(device, g);
+        check(a.number == 0 && a.state == 200 - g && a.channel == 100 + g && a.key == 50 + g, "state, channel and key are read");
+    }
+    device->instrument.polyphony = 20;
+    check(muntinorris_generator(device, 19).number == 0 && muntinorris_generator(device, 20).number == MUNTINORRIS_NO_SUCH_GENERATOR, "polyphony bounds the generators");
+}
+
+/* Three releasing generators in an order of age of our own; an own ID of our own. */
+static void ages_and_id(void)
+{
+    static const uint8_t order[] = {2, 0, 1};
+    static const uint8_t reset[] = {0xF0, 0x7E, 77, 0x09, 0x01, 0xF7};
+    unsigned i;
+
+    start(3, 5);
+    for (i = 0; i < 3; i++) {
+        device->instrument.generators.state[i] = MUNTINORRIS_STATE_RELEASING;
+        device->instrument.generators.ages.generator[i] = order[i];
+    }
+    device->instrument.generators.ages.count = 3;
+    feed(0x90);
+    feed(60);
+    feed(64);
+    check(answer.generator == 2 && answer.was == MUNTINORRIS_WAS_RELEASE, "ages.generator is read");
+    check(device->instrument.generators.ages.generator[0] == 0 && device->instrument.generators.ages.generator[1] == 1 && device->instrument.generators.ages.generator[2] == 2, "ages.generator is written");
+    for (i = 0; i < sizeof reset; i++)
+        feed(reset[i]);
+    check(answer.what == MUNTINORRIS_NONE, "a reset for another ID");
+    device->instrument.id = 77;
+    for (i = 0; i < sizeof reset; i++)
+        feed(reset[i]);
+    check(answer.what == MUNTINORRIS_DONE && device->instrument.id == 77, "id is read");
+}
+
+#define STRUCT(s) printf("%s %u\n", #s, (unsigned)sizeof(struct muntinorris_##s))
+#define FIELD(s, f) printf("%s.%s %u %u\n", #s, #f, (unsigned)offsetof(struct muntinorris_##s, f), (unsigned)sizeof(((struct muntinorris_##s *)0)->f))
+
+static void print(void)
+{
+    STRUCT(device), FIELD(device, parser), FIELD(device, instrument);
+    STRUCT(parser), FIELD(parser, status), FIELD(parser, count), FIELD(parser, bytes);
+    STRUCT(instrument), FIELD(instrument, polyphony), FIELD(instrument, id), FIELD(instrument, table), FIELD(instrument, channels), FIELD(instrument, generators);
+    STRUCT(table), FIELD(table, count), FIELD(table, entries);
+    STRUCT(entry), FIELD(entry, channel), FIELD(entry, value);
+    STRUCT(channel), FIELD(channel, program), FIELD(channel, modulation), FIELD(channel, volume), FIELD(channel, pan), FIELD(channel, expression), FIELD(channel, hold);
+    FIELD(channel, rpn_msb), FIELD(channel, rpn_lsb), FIELD(channel, bend_msb), FIELD(channel, bend_lsb), FIELD(channel, sensitivity);
+    STRUCT(generators), FIELD(generators, state), FIELD(generators, channel), FIELD(generators, key), FIELD(generators, ages);
+    STRUCT(ages), FIELD(ages, count), FIELD(ages, generator);
+    STRUCT(answer), FIELD(answer, what), FIELD(answer, number), FIELD(answer, channel), FIELD(answer, key), FIELD(answer, generator), FIELD(answer, was);
+    STRUCT(generator_answer), FIELD(generator_answer, number), FIELD(generator_answer, state), FIELD(generator_answer, channel), FIELD(generator_answer, key);
+    STRUCT(mask_answer), FIELD(mask_answer, number), FIELD(mask_answer, masked);
+    STRUCT(share_answer), FIELD(share_answer, number), FIELD(share_answer, share);
+}
+
+int main(int argc, char **argv)
+{
+    if (argc > 1 && strcmp(argv[1], "print") == 0) {
+        print();
+        return 0;
+    }
+    starts();
+    fill(0xA5);
+    parser();
+    channels();
+    table();
+    generators();
+    ages_and_id();
+    if (failures == 0)
+        printf("the record of %u bytes is the library's\n", (unsigned)sizeof(struct muntinorris_device));
+    return failures != 0;
+}
