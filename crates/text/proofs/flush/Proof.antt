@@ -1,10 +1,10 @@
--- `listing::flush` writes a part of the page that is within it.
+-- `text::flush` writes a part of the page that is within it.
 -- Assumes nothing.
 use mathlib.Core.Path.{sym}
 use lib.Seq.{length-take-le}
 use borrow.Author.Needs.{needs}
-use Rattle.listing.proofs.flush.Statement.{statement}
-use Rattle.listing.proofs.flush.Tie as tie
+use Rattle.text.proofs.flush.Statement.{statement}
+use Rattle.text.proofs.flush.Tie as tie
 
 slice-aggregate-write-all : tie.Need-slice-aggregate-write-all
 slice-aggregate-write-all c = sym (length-take-le _ _ (c .before .if1 .taken))

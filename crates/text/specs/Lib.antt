@@ -1,0 +1,2 @@
+-- Text in a page.
+pub mod Text

@@ -1,0 +1,27 @@
+-- Text in a page of bytes, and a number as text.
+use Prim.Native.Nat.{ℕ, zero, suc, _+_, _/_, _%_, min, max}
+use mathlib.Core.Path.{_≡_}
+use mathlib.Core.List.{List, [], _∷_, _++_}
+use lib.Dec.{leb, ltb}
+use lib.ListN.{length}
+use lib.Seq.{sets}
+use Rattle.loops.specs.Cases.{if_then_else_}
+
+-- A text put at a place of a page, with the place and the page that this leaves. The place is the one behind the text, or the page's end if the text ran into
+-- it; a place past the end stays. The page has the text's bytes stored from the place on, each that falls within it, and every other byte as it was.
+pub record Put (old : List ℕ) (at : ℕ) (text : List ℕ) (next : ℕ) (new : List ℕ) : Type 0 where
+  pub place : next ≡ max at (min (at + length text) (length old))
+  pub page : new ≡ sets old at text
+
+-- a number of at most so many digits, in ASCII, the most significant first
+unfoldable pub decimalWithin : ℕ → ℕ → List ℕ
+decimalWithin zero n = []
+decimalWithin (suc k) n = if ltb n 10 then (48 + n) ∷ [] else decimalWithin k (n / 10) ++ ((48 + n % 10) ∷ [])
+
+-- every number of 64 bits has at most twenty digits
+abbrev pub decimal : ℕ → List ℕ
+decimal n = decimalWithin 20 n
+
+-- where a line goes in a page of so many bytes, of which `used` are taken: behind them if 64 bytes are free there, else to the page's start
+unfoldable pub placeFor : ℕ → ℕ → ℕ
+placeFor size used = if leb (used + 64) size then used else 0
