@@ -1,0 +1,334 @@
+//! Instructions, by callgrind: each case is a set-up and then the calls that are counted.
+//!
+//! Between the parts `bench_mark` is called, before which callgrind writes out what it has counted so far and begins
+//! anew; so it leaves two files for each case, the set-up's and the counted one's, in the order of the lines printed here.
+//! A line has the case's name, how many calls were counted, what is made of them, and the target.
+
+use crate::streams::{self, before_theft, four_notes_each, mip, Stream};
+use crate::subject::Subject;
+use random::Random;
+use std::hint::black_box;
+
+/// What a count is held against.
+#[derive(Clone, Copy)]
+enum Target {
+    /// "Theft at most 2,000 instructions, its bytes included."
+    Theft,
+    /// "A byte that completes nothing at most 100."
+    NothingCompleted,
+    /// "The dearest single byte at most 15,000."
+    SingleByte,
+    /// The mean over a stream.
+    Mean,
+}
+
+struct Case {
+    name: String,
+    setup: Vec<u8>,
+    counted: Vec<u8>,
+    target: Target,
+}
+
+const DRUM_CHANNEL: u8 = 9;
+
+/// Callgrind writes a file whenever this is called.
+#[no_mangle]
+#[inline(never)]
+extern "C" fn bench_mark() {
+    black_box(());
+}
+
+pub fn run<S: Subject>() {
+    for case in nothing_completed().into_iter().chain(messages()) {
+        count::<S>(64, &case);
+    }
+    count_report::<S>();
+    for stream in streams::all() {
+        count_stream::<S>(stream);
+    }
+    count_random::<S>();
+    for stream in streams::all() {
+        count_each_byte::<S>(&stream);
+    }
+}
+
+fn count<S: Subject>(polyphony: u8, case: &Case) {
+    let mut device = S::start(polyphony);
+    feed(&mut device, &case.setup);
+    bench_mark();
+    feed(&mut device, &case.counted);
+    bench_mark();
+    print_line(&case.name, case.counted.len(), case.target);
+}
+
+fn feed<S: Subject>(device: &mut S, bytes: &[u8]) {
+    for &byte in bytes {
+        black_box(device.byte(black_box(byte)));
+    }
+}
+
+fn print_line(name: &str, calls: usize, target: Target) {
+    let (kind, most) = match target {
+        Target::Theft => ("sum", "2000"),
+        Target::NothingCompleted => ("sum", "100"),
+        Target::SingleByte => ("sum", "15000"),
+        Target::Mean => ("mean", "-"),
+    };
+    println!("{name};{calls};{kind};{most}");
+}
+
+fn case(name: &str, setup: &[u8], counted: &[u8], target: Target) -> Case {
+    Case {
+        name: name.to_string(),
+        setup: setup.to_vec(),
+        counted: counted.to_vec(),
+        target,
+    }
+}
+
+fn nothing_completed() -> Vec<Case> {
+    let nothing = |name, setup, byte| case(name, setup, &[byte], Target::NothingCompleted);
+    let mut long = vec![0xF0];
+    long.extend([0x01; 60]);
+    vec![
+        nothing("status byte", &[], 0x90),
+        nothing("first data byte", &[0x90], 0x3C),
+        nothing("real-time byte", &[0x90, 0x3C], 0xF8),
+        nothing("real-time byte inside SysEx", &[0xF0, 0x7F], 0xF8),
+        nothing("F0", &[0x90, 0x3C], 0xF0),
+        nothing("SysEx data byte, head", &[0xF0, 0x7F, 0x7F], 0x0B),
+        nothing(
+            "SysEx data byte, pairs",
+            &[0xF0, 0x7F, 0x7F, 0x0B, 0x01, 0x00],
+            0x04,
+        ),
+        nothing("SysEx data byte, 61st", &long, 0x01),
+        nothing("status that cuts a SysEx", &long, 0x90),
+        nothing("song position status", &[0x90], 0xF2),
+        nothing("swallowed data byte", &[0xF2], 0x00),
+        nothing("stray data byte", &[], 0x00),
+    ]
+}
+
+/// 64 generators of channel 10, all but the newest releasing, all of one key.
+fn drum_roll(key: u8) -> Vec<u8> {
+    let mut bytes = vec![0x90 | DRUM_CHANNEL];
+    bytes.extend([key, 64].repeat(64));
+    bytes
+}
+
+/// 64 generators of channel 1, held.
+fn all_of_channel_1() -> Vec<u8> {
+    let mut bytes = vec![0x90];
+    bytes.extend((0..64).flat_map(|key| [key, 64]));
+    bytes
+}
+
+fn followed(mut setup: Vec<u8>, more: &[u8]) -> Vec<u8> {
+    setup.extend(more);
+    setup
+}
+
+/// A MIP message without its F7.
+fn open_mip(pairs: impl IntoIterator<Item = (u8, u8)>) -> Vec<u8> {
+    let mut bytes = mip(pairs);
+    bytes.pop();
+    bytes
+}
+
+/// Whole notes, and last bytes that have the most to do.
+fn messages() -> Vec<Case> {
+    let last = |name, setup: &[u8], byte| case(name, setup, &[byte], Target::SingleByte);
+    let (full, drums, theft) = (all_of_channel_1(), drum_roll(44), before_theft());
+    let mut cases = vec![
+        case(
+            "theft, three bytes, fresh table",
+            &full,
+            &[0x90, 100, 64],
+            Target::Theft,
+        ),
+        case(
+            "theft, three bytes, dearest table",
+            &theft,
+            &[0x99, 71, 64],
+            Target::Theft,
+        ),
+        last("theft, last byte", &followed(theft, &[0x99, 71]), 64),
+    ];
+    cases.extend(notes(&full, &drums));
+    cases.extend(pedals(&full));
+    cases.extend(exclusive(&full));
+    cases
+}
+
+fn notes(full: &[u8], drums: &[u8]) -> Vec<Case> {
+    let last = |name, setup: Vec<u8>, byte| case(name, &setup, &[byte], Target::SingleByte);
+    let all_but_one = &full[..full.len() - 2];
+    let masked = followed(mip([(1, 64)]), full);
+    vec![
+        last("note-on, first generator", vec![0x90, 60], 64),
+        last(
+            "note-on, last generator",
+            followed(all_but_one.to_vec(), &[100]),
+            64,
+        ),
+        last(
+            "note-on, same key again",
+            followed(full.to_vec(), &[63]),
+            64,
+        ),
+        last(
+            "note-on, group of 64 silenced",
+            followed(drums.to_vec(), &[42]),
+            64,
+        ),
+        last("note-on, number 10", followed(masked, &[0x90, 100]), 64),
+        last(
+            "note-on, number 11",
+            followed(drums.to_vec(), &[0x90, 60]),
+            64,
+        ),
+        last("note-off", followed(full.to_vec(), &[0x80, 63]), 64),
+        last(
+            "120 with 64 sounding",
+            followed(full.to_vec(), &[0xB0, 120]),
+            0,
+        ),
+        last("123 with 64 held", followed(full.to_vec(), &[0xB0, 123]), 0),
+    ]
+}
+
+fn pedals(full: &[u8]) -> Vec<Case> {
+    let last = |name, setup: Vec<u8>, byte| case(name, &setup, &[byte], Target::SingleByte);
+    let pedal_down = followed(full.to_vec(), &[0xB0, 64, 127]);
+    let sustained = followed(pedal_down.clone(), &[123, 0]);
+    vec![
+        last(
+            "123 with 64 held, pedal down",
+            followed(pedal_down, &[123]),
+            0,
+        ),
+        last(
+            "pedal up with 64 sustained",
+            followed(sustained.clone(), &[64]),
+            0,
+        ),
+        last("121 with 64 sustained", followed(sustained, &[121]), 0),
+        last("volume", vec![0xB0, 7], 100),
+        last("bend", vec![0xE0, 0], 64),
+        last("program", vec![0xC0], 5),
+    ]
+}
+
+fn exclusive(full: &[u8]) -> Vec<Case> {
+    let end = |name, setup: Vec<u8>| case(name, &setup, &[0xF7], Target::SingleByte);
+    let sixteen = |value: u8| open_mip((0..16).map(move |channel| (channel, value)));
+    let falling = open_mip((0..16).map(|channel| (channel, if channel < 15 { 64 } else { 63 })));
+    vec![
+        end("F7 of another's SysEx", vec![0xF0, 0x43, 0x10, 0x4C]),
+        end("F7 of MIP, 16 entries", sixteen(64)),
+        end("F7 of MIP, 64 busy", followed(full.to_vec(), &sixteen(64))),
+        end(
+            "F7 of MIP, all 64 masked",
+            followed(full.to_vec(), &sixteen(65)),
+        ),
+        end(
+            "F7 of MIP, 4 each, 64 masked",
+            followed(four_notes_each(), &sixteen(65)),
+        ),
+        end(
+            "F7 of MIP, number 9 at the end",
+            followed(full.to_vec(), &falling),
+        ),
+        end(
+            "F7 of GM System On",
+            followed(full.to_vec(), &[0xF0, 0x7E, 0x7F, 0x09, 0x01]),
+        ),
+    ]
+}
+
+/// The report of the oldest of 64 generators.
+fn count_report<S: Subject>() {
+    let mut device = S::start(64);
+    feed(&mut device, &all_of_channel_1());
+    bench_mark();
+    black_box(device.report(0));
+    bench_mark();
+    print_line(
+        "report (no byte) of the oldest of 64",
+        1,
+        Target::SingleByte,
+    );
+}
+
+/// So many random cases are counted for the dearest of their kind.
+const RANDOM_CASES: usize = 100;
+
+/// A MIP message, without its F7, of all channels in random order, values rising to about 64.
+fn random_mip(random: &mut Random) -> Vec<u8> {
+    let mut channels: Vec<u8> = (0..16).collect();
+    random.shuffle(&mut channels);
+    let step = random.pick(&[1, 5, 9, 12]);
+    let mut value = 0;
+    open_mip(channels.into_iter().map(|channel| {
+        value = (value + random.below(step) as u8).min(127);
+        (channel, value)
+    }))
+}
+
+/// 64 held notes on random channels, no key twice.
+fn random_notes(random: &mut Random) -> Vec<u8> {
+    let channels = 1 + random.below(16);
+    (0..64)
+        .flat_map(|key| [0x90 | random.below(channels) as u8, key, 64])
+        .collect()
+}
+
+/// The F7 of random MIP messages, and then the last byte of a note-on, on a device of 64 notes: a theft, or number 10 or 11.
+fn count_random<S: Subject>() {
+    let mut random = Random::new(4);
+    for _ in 0..RANDOM_CASES {
+        let mut device = S::start(64);
+        feed(&mut device, &random_notes(&mut random));
+        feed(&mut device, &random_mip(&mut random));
+        count_byte(&mut device, 0xF7, "F7 of 100 random MIP messages");
+        feed(&mut device, &random_notes(&mut random));
+        feed(&mut device, &[0x90 | random.below(16) as u8, 100]);
+        count_byte(&mut device, 64, "last byte of 100 random note-ons, 64 busy");
+    }
+}
+
+/// Counts one byte of several, of which the dearest is looked for.
+fn count_byte<S: Subject>(device: &mut S, byte: u8, of: &str) {
+    bench_mark();
+    black_box(device.byte(black_box(byte)));
+    bench_mark();
+    println!("dearest {of};1;largest;15000");
+}
+
+/// So many bytes of each stream are counted for its mean.
+const SAMPLE: usize = 20_000;
+
+fn count_stream<S: Subject>(mut stream: Stream) {
+    stream.bytes.truncate(SAMPLE);
+    let case = Case {
+        name: format!("mean of {}", stream.name),
+        setup: stream.setup,
+        counted: stream.bytes,
+        target: Target::Mean,
+    };
+    count::<S>(stream.polyphony, &case);
+}
+
+/// So many bytes of each stream are counted one by one, for the dearest.
+const ONE_BY_ONE: usize = 300;
+
+fn count_each_byte<S: Subject>(stream: &Stream) {
+    let mut device = S::start(stream.polyphony);
+    let (before, counted) = stream.bytes.split_at(SAMPLE);
+    feed(&mut device, &stream.setup);
+    feed(&mut device, before);
+    for &byte in &counted[..ONE_BY_ONE] {
+        count_byte(&mut device, byte, &format!("byte of {}", stream.name));
+    }
+}

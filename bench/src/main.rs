@@ -1,0 +1,26 @@
+//! `bench`: what the proved library costs, beside the second implementation, on the same streams in one run.
+//!
+//! Without arguments it prints times. `--count proved` and `--count paper` are for the script `count`, which runs them
+//! under callgrind and prints instructions.
+
+mod counting;
+mod streams;
+mod subject;
+mod timing;
+
+use std::process::ExitCode;
+
+fn main() -> ExitCode {
+    let arguments: Vec<String> = std::env::args().skip(1).collect();
+    let arguments: Vec<&str> = arguments.iter().map(String::as_str).collect();
+    match arguments[..] {
+        [] => timing::run(),
+        ["--count", "proved"] => counting::run::<subject::Proved>(),
+        ["--count", "paper"] => counting::run::<subject::Paper>(),
+        _ => {
+            eprintln!("usage: bench [--count proved|paper]");
+            return ExitCode::FAILURE;
+        }
+    }
+    ExitCode::SUCCESS
+}

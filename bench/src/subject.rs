@@ -1,0 +1,66 @@
+//! What is measured: an implementation that takes bytes and reports through calls that are not inlined, so that both
+//! sides pay for a call.
+
+/// An implementation with its answers reduced to what the measurement needs.
+pub trait Subject: Clone {
+    fn start(polyphony: u8) -> Self;
+    /// Takes a byte; true if it completed a message that was not refused.
+    fn byte(&mut self, byte: u8) -> bool;
+    fn report(&mut self, generator: u8) -> bool;
+}
+
+#[derive(Clone)]
+pub struct Proved(proved::Device);
+
+impl Subject for Proved {
+    fn start(polyphony: u8) -> Proved {
+        let mut device = proved::Device::memory([0; proved::RECORD_BYTES]);
+        device.start(polyphony, 0);
+        Proved(device)
+    }
+
+    #[inline]
+    fn byte(&mut self, byte: u8) -> bool {
+        matches!(self.0.byte(byte).what, proved::DONE | proved::NOTE)
+    }
+
+    #[inline]
+    fn report(&mut self, generator: u8) -> bool {
+        self.0.report(generator).what == proved::DONE
+    }
+}
+
+#[derive(Clone)]
+pub struct Paper(paper::Device);
+
+/// The second implementation's byte as a call with a name that callgrind can find.
+#[no_mangle]
+#[inline(never)]
+fn paper_byte(device: &mut paper::Device, byte: u8) -> paper::Answer {
+    device.byte(byte)
+}
+
+#[no_mangle]
+#[inline(never)]
+fn paper_report(device: &mut paper::Device, generator: u8) -> paper::Answer {
+    device.report(generator)
+}
+
+impl Subject for Paper {
+    fn start(polyphony: u8) -> Paper {
+        Paper(paper::Device::start(polyphony, 0).0)
+    }
+
+    #[inline]
+    fn byte(&mut self, byte: u8) -> bool {
+        matches!(
+            paper_byte(&mut self.0, byte),
+            paper::Answer::Done | paper::Answer::Note { .. }
+        )
+    }
+
+    #[inline]
+    fn report(&mut self, generator: u8) -> bool {
+        paper_report(&mut self.0, generator) == paper::Answer::Done
+    }
+}

@@ -1,0 +1,92 @@
+//! Times both implementations on each stream and prints what a byte costs.
+//!
+//! The stream is cut into slices, and the two sides take each slice in alternation; of the times of a slice over several
+//! turns the median counts. So a machine that is busy with something else disturbs both sides alike, and little.
+
+use crate::streams::{self, Stream};
+use crate::subject::{Paper, Proved, Subject};
+use std::hint::black_box;
+use std::time::Instant;
+
+/// Passes over the stream; an odd number, for the median.
+const TURNS: usize = 15;
+/// Bytes of a slice: few enough to run mostly without being interrupted.
+const SLICE: usize = 1000;
+/// "Dense notes at most 8 times the reference's time."
+const TARGET: f64 = 8.0;
+
+pub fn run() {
+    println!(
+        "medians of {TURNS} turns, the sides in alternation; ns a byte, million messages a second"
+    );
+    println!(
+        "{:30} {:>8} {:>8} {:>7} {:>8} {:>8}  target",
+        "stream", "proved", "paper", "ratio", "proved", "paper"
+    );
+    for stream in streams::all() {
+        print_row(&stream);
+    }
+}
+
+fn print_row(stream: &Stream) {
+    let (proved, paper) = seconds(stream);
+    let per_byte = |seconds: f64| seconds * 1e9 / stream.bytes.len() as f64;
+    let messages = |seconds: f64| match stream.messages {
+        Some(messages) => format!("{:.2}", messages as f64 / seconds / 1e6),
+        None => "-".to_string(),
+    };
+    let ratio = proved / paper;
+    let target = match (stream.name.starts_with("dense notes"), ratio <= TARGET) {
+        (false, _) => "-".to_string(),
+        (true, met) => format!("{TARGET} {}", if met { "met" } else { "MISSED" }),
+    };
+    println!(
+        "{:30} {:>8.1} {:>8.1} {ratio:>7.2} {:>8} {:>8}  {target}",
+        stream.name,
+        per_byte(proved),
+        per_byte(paper),
+        messages(proved),
+        messages(paper),
+    );
+}
+
+/// The seconds that both sides take for the stream: the sum of its slices' medians.
+fn seconds(stream: &Stream) -> (f64, f64) {
+    let slices = stream.bytes.len().div_ceil(SLICE);
+    let mut proved = vec![Vec::new(); slices];
+    let mut paper = vec![Vec::new(); slices];
+    for _ in 0..TURNS {
+        let mut one = started::<Proved>(stream);
+        let mut other = started::<Paper>(stream);
+        for (at, slice) in stream.bytes.chunks(SLICE).enumerate() {
+            let (seconds, answered) = time(&mut one, slice);
+            proved[at].push(seconds);
+            let (seconds, answered_too) = time(&mut other, slice);
+            paper[at].push(seconds);
+            assert_eq!(answered, answered_too, "the two sides answer differently");
+        }
+    }
+    let sum = |slices: Vec<Vec<f64>>| slices.into_iter().map(median).sum();
+    (sum(proved), sum(paper))
+}
+
+fn median(mut seconds: Vec<f64>) -> f64 {
+    seconds.sort_by(f64::total_cmp);
+    seconds[seconds.len() / 2]
+}
+
+fn started<S: Subject>(stream: &Stream) -> S {
+    let mut device = S::start(stream.polyphony);
+    for &byte in &stream.setup {
+        device.byte(byte);
+    }
+    device
+}
+
+/// The seconds for these bytes, and how many of them completed a message.
+fn time<S: Subject>(device: &mut S, bytes: &[u8]) -> (f64, usize) {
+    let clock = Instant::now();
+    let completing = |&&byte: &&u8| device.byte(black_box(byte));
+    let answered = bytes.iter().filter(completing).count();
+    (clock.elapsed().as_secs_f64(), answered)
+}

@@ -1,0 +1,247 @@
+//! "The note book of demand 3": which notes the device owes, kept from messages, reports and answers alone.
+//!
+//! A book can be told to forget one of its rules (a `Slip`), to show that the checks would notice.
+
+use crate::drums::{excludes, DRUM_CHANNEL};
+use crate::split::Message;
+use paper::{Answer, MOST_GENERATORS};
+
+#[derive(Clone, Copy, Debug, PartialEq, Eq)]
+pub struct Note {
+    /// The channel minus 1.
+    pub channel: u8,
+    pub key: u8,
+    /// Down, or on the pedal.
+    pub down: bool,
+}
+
+/// A rule that a wrong book forgets.
+#[derive(Clone, Copy, Debug, PartialEq, Eq)]
+pub enum Slip {
+    NoteOff,
+    SameKey,
+    Group,
+    PedalUp,
+    ResetControllers,
+    AllSoundOff,
+    AllNotesOff,
+    Report,
+    NewTable,
+    Reset,
+}
+
+pub const SLIPS: [Slip; 10] = [
+    Slip::NoteOff,
+    Slip::SameKey,
+    Slip::Group,
+    Slip::PedalUp,
+    Slip::ResetControllers,
+    Slip::AllSoundOff,
+    Slip::AllNotesOff,
+    Slip::Report,
+    Slip::NewTable,
+    Slip::Reset,
+];
+
+#[derive(Clone, Debug)]
+pub struct Book {
+    polyphony: u8,
+    id: u8,
+    notes: [Option<Note>; MOST_GENERATORS],
+    hold: [u8; 16],
+    /// Channel minus 1 and value, by falling priority.
+    table: Vec<(u8, u8)>,
+    slip: Option<Slip>,
+}
+
+/// What the book saw in a message, beyond the change of its notes.
+#[derive(Clone, Copy, Debug, PartialEq, Eq)]
+pub enum Seen {
+    Ordinary,
+    /// A note left as stolen.
+    Stolen(Note),
+    /// An accepted MIP message or reset: the end of a run.
+    Boundary,
+}
+
+impl Book {
+    /// The fresh book: "no note, hold 0 everywhere and the starting table".
+    pub fn fresh(polyphony: u8, id: u8, slip: Option<Slip>) -> Book {
+        let order = [10, 1, 2, 3, 4, 5, 6, 7, 8, 9, 11, 12, 13, 14, 15, 16];
+        Book {
+            polyphony,
+            id,
+            notes: [None; MOST_GENERATORS],
+            hold: [0; 16],
+            table: order.map(|channel| (channel - 1, polyphony)).to_vec(),
+            slip,
+        }
+    }
+
+    /// The notes of generators 0 to P − 1.
+    pub fn notes(&self) -> &[Option<Note>] {
+        &self.notes[..usize::from(self.polyphony)]
+    }
+
+    pub fn notes_of(&self, channel: u8) -> impl Iterator<Item = Note> + '_ {
+        self.notes()
+            .iter()
+            .flatten()
+            .copied()
+            .filter(move |note| note.channel == channel)
+    }
+
+    /// The share of a channel, from the table and P; none if it is masked.
+    pub fn share(&self, channel: u8) -> Option<usize> {
+        let at = self.table.iter().position(|entry| entry.0 == channel)?;
+        let value = self.table[at].1;
+        let before = if at == 0 { 0 } else { self.table[at - 1].1 };
+        (value <= self.polyphony).then(|| usize::from(value.saturating_sub(before)))
+    }
+
+    /// Does a note-on of this channel and key end the note, before it looks for a generator?
+    pub fn ended_by(channel: u8, key: u8, note: Note) -> bool {
+        note.channel == channel && (note.key == key || excludes(channel, key, note.key))
+    }
+
+    /// "A channel's count at its note-on above 0."
+    pub fn count_at(&self, channel: u8, key: u8) -> usize {
+        let kept = |note: &Note| !Book::ended_by(channel, key, *note);
+        self.notes_of(channel).filter(kept).count() + 1
+    }
+
+    /// A complete message and the answer to its last byte.
+    pub fn message(&mut self, message: &Message, answer: Answer) -> Seen {
+        match message {
+            Message::Channel {
+                kind,
+                channel,
+                data,
+            } => self.channel_message(*kind, *channel, *data, answer),
+            Message::SysEx(bytes) => self.sysex(bytes, answer),
+        }
+    }
+
+    /// "Report of g, answered *done*: a note on g leaves."
+    pub fn report(&mut self, generator: u8, answer: Answer) {
+        if answer == Answer::Done && !self.forgets(Slip::Report) {
+            self.notes[usize::from(generator)] = None;
+        }
+    }
+
+    fn channel_message(&mut self, kind: u8, channel: u8, data: [u8; 2], answer: Answer) -> Seen {
+        match (kind, data) {
+            (0x9, [key, 1..=127]) => return self.note_on(channel, key, answer),
+            (0x8 | 0x9, [key, _]) if !self.forgets(Slip::NoteOff) => self.note_off(channel, key),
+            (0xB, [64, value]) => {
+                self.hold[usize::from(channel)] = value;
+                if value < 64 && !self.forgets(Slip::PedalUp) {
+                    self.drop_notes(|note| note.channel == channel && !note.down);
+                }
+            }
+            (0xB, [120, 0]) if !self.forgets(Slip::AllSoundOff) => {
+                self.drop_notes(|note| note.channel == channel);
+            }
+            (0xB, [121, 0]) => {
+                self.hold[usize::from(channel)] = 0;
+                if !self.forgets(Slip::ResetControllers) {
+                    self.drop_notes(|note| note.channel == channel && !note.down);
+                }
+            }
+            (0xB, [123, 0]) if !self.forgets(Slip::AllNotesOff) => self.all_notes_off(channel),
+            _ => {}
+        }
+        Seen::Ordinary
+    }
+
+    fn note_on(&mut self, channel: u8, key: u8, answer: Answer) -> Seen {
+        let Answer::Note { generator, .. } = answer else {
+            return Seen::Ordinary;
+        };
+        let (same_key, group) = (!self.forgets(Slip::SameKey), !self.forgets(Slip::Group));
+        self.drop_notes(|note| {
+            Book::ended_by(channel, key, note) && if note.key == key { same_key } else { group }
+        });
+        let note = Note {
+            channel,
+            key,
+            down: true,
+        };
+        match self.notes[usize::from(generator)].replace(note) {
+            Some(stolen) => Seen::Stolen(stolen),
+            None => Seen::Ordinary,
+        }
+    }
+
+    fn note_off(&mut self, channel: u8, key: u8) {
+        if channel != DRUM_CHANNEL {
+            self.keys_up(channel, |note| note.key == key);
+        }
+    }
+
+    fn all_notes_off(&mut self, channel: u8) {
+        if channel == DRUM_CHANNEL {
+            self.drop_notes(|note| note.channel == channel && note.down);
+        } else {
+            self.keys_up(channel, |_| true);
+        }
+    }
+
+    /// "A down note goes on the pedal if hold is 64 or more, else leaves."
+    fn keys_up(&mut self, channel: u8, which: impl Fn(Note) -> bool) {
+        let concerned = |note: Note| note.channel == channel && note.down && which(note);
+        if self.hold[usize::from(channel)] < 64 {
+            self.drop_notes(concerned);
+            return;
+        }
+        for note in self.notes.iter_mut().flatten() {
+            if concerned(*note) {
+                note.down = false;
+            }
+        }
+    }
+
+    fn sysex(&mut self, bytes: &[u8], answer: Answer) -> Seen {
+        let accepted = |d: u8| (d == 0x7F || d == self.id) && answer == Answer::Done;
+        match bytes {
+            [0x7F, d, 0x0B, 0x01, pairs @ ..] if accepted(*d) => {
+                self.table = pairs
+                    .chunks_exact(2)
+                    .map(|pair| (pair[0], pair[1]))
+                    .collect();
+                self.drop_masked();
+                Seen::Boundary
+            }
+            [0x7E, d, 0x09, 0x01] if accepted(*d) => {
+                if !self.forgets(Slip::Reset) {
+                    *self = Book::fresh(self.polyphony, self.id, self.slip);
+                }
+                Seen::Boundary
+            }
+            _ => Seen::Ordinary,
+        }
+    }
+
+    fn drop_masked(&mut self) {
+        if self.forgets(Slip::NewTable) {
+            return;
+        }
+        for channel in 0..16 {
+            if self.share(channel).is_none() {
+                self.drop_notes(|note| note.channel == channel);
+            }
+        }
+    }
+
+    fn drop_notes(&mut self, leaves: impl Fn(Note) -> bool) {
+        for place in &mut self.notes {
+            if place.is_some_and(&leaves) {
+                *place = None;
+            }
+        }
+    }
+
+    fn forgets(&self, slip: Slip) -> bool {
+        self.slip == Some(slip)
+    }
+}

@@ -1,0 +1,239 @@
+//! Demand 3's claims, and that of the order of age, held against what ran.
+//!
+//! The book is kept beside the devices; nothing here looks into a device except to compare.
+
+use crate::book::{Book, Note, Seen, Slip};
+use crate::lists::Event;
+use crate::record::Record;
+use crate::split::{Message, Splitter};
+use paper::{Answer, GeneratorView, State, Was, MOST_GENERATORS};
+
+/// How often the claims had something to say.
+#[derive(Clone, Debug, Default)]
+pub struct Exercised {
+    /// Note-ons of a channel that kept within its share.
+    pub within_share: u64,
+    /// Of these, the ones that found a note on every generator.
+    pub within_share_and_full: u64,
+    /// Thefts and refusals on unmasked channels.
+    pub thefts_and_refusals: u64,
+}
+
+/// The book and what the claims need beside it, for one list of events.
+pub struct Claims {
+    splitter: Splitter,
+    book: Book,
+    /// Which channels have kept within their share in some run that reaches up to now.
+    within_share: [bool; 16],
+    /// When each generator's last *note* answer came: 0 for never.
+    last_note: [u64; MOST_GENERATORS],
+    clock: u64,
+}
+
+impl Claims {
+    /// The list begins with a start: P and ID as the book has them, "1 and 0 if that was refused".
+    pub fn new(polyphony: u8, id: u8, answer: Answer, slip: Option<Slip>) -> Claims {
+        let book = match answer {
+            Answer::Done => Book::fresh(polyphony, id, slip),
+            _ => Book::fresh(1, 0, slip),
+        };
+        Claims {
+            splitter: Splitter::default(),
+            book,
+            within_share: [false; 16],
+            last_note: [0; MOST_GENERATORS],
+            clock: 0,
+        }
+    }
+
+    /// Takes an event with its answer, and checks what is claimed of thefts and refusals.
+    pub fn event(
+        &mut self,
+        event: Event,
+        answer: Answer,
+        exercised: &mut Exercised,
+    ) -> Result<(), String> {
+        self.clock += 1;
+        if let Answer::Note { generator, .. } = answer {
+            self.last_note[usize::from(generator)] = self.clock;
+        }
+        match event {
+            Event::Report(generator) => self.book.report(generator, answer),
+            Event::Byte(byte) => {
+                if let Some(message) = self.splitter.byte(byte) {
+                    return self.message(&message, answer, exercised);
+                }
+            }
+        }
+        Ok(())
+    }
+
+    fn message(
+        &mut self,
+        message: &Message,
+        answer: Answer,
+        exercised: &mut Exercised,
+    ) -> Result<(), String> {
+        self.begin_runs();
+        let note_on = match message {
+            Message::Channel {
+                kind: 0x9,
+                channel,
+                data: [key, 1..=127],
+            } => Some((*channel, *key)),
+            _ => None,
+        };
+        if let Some((channel, key)) = note_on {
+            self.count_note_on(channel, key, answer, exercised)?;
+        }
+        let had = note_on.map(|_| self.book.clone());
+        let seen = self.book.message(message, answer);
+        match (seen, note_on) {
+            (Seen::Boundary, _) => self.within_share = [false; 16],
+            (Seen::Stolen(stolen), _) => self.not_within_share(stolen)?,
+            _ => {}
+        }
+        match (note_on, had) {
+            (Some(note_on), Some(had)) => justified(&had, note_on, answer, seen, exercised),
+            _ => Ok(()),
+        }
+    }
+
+    /// "A run is any unbroken part of the list": a channel whose notes are now at most its share may begin one here.
+    fn begin_runs(&mut self) {
+        for channel in 0..16 {
+            let notes = self.book.notes_of(channel).count();
+            let fits = self.book.share(channel).is_some_and(|share| notes <= share);
+            self.within_share[usize::from(channel)] |= fits;
+        }
+    }
+
+    /// Counts a note-on against the share. "In a run as demand 3 has it, each note-on above 0 of that
+    /// channel answers *note*."
+    fn count_note_on(
+        &mut self,
+        channel: u8,
+        key: u8,
+        answer: Answer,
+        exercised: &mut Exercised,
+    ) -> Result<(), String> {
+        let within = &mut self.within_share[usize::from(channel)];
+        let count = self.book.count_at(channel, key);
+        *within &= self.book.share(channel).is_some_and(|share| count <= share);
+        if !*within {
+            return Ok(());
+        }
+        exercised.within_share += 1;
+        let full = self.book.notes().iter().all(Option::is_some);
+        exercised.within_share_and_full += u64::from(full);
+        match answer {
+            Answer::Note { .. } => Ok(()),
+            _ => Err(format!(
+                "demand 3: channel {} never had more than its share, yet its note-on of key {key} answers {answer:?}",
+                channel + 1
+            )),
+        }
+    }
+
+    /// "And no note of it leaves as stolen."
+    fn not_within_share(&self, stolen: Note) -> Result<(), String> {
+        if self.within_share[usize::from(stolen.channel)] {
+            return Err(format!(
+                "demand 3: channel {} never had more than its share, yet its key {} leaves as stolen",
+                stolen.channel + 1,
+                stolen.key
+            ));
+        }
+        Ok(())
+    }
+
+    /// "After every event the busy generators are exactly those with a note in the book", and the
+    /// older of two sounding generators is the one whose last *note* answer came earlier.
+    pub fn record(&self, record: &Record) -> Result<(), String> {
+        for (g, view) in record.generators.iter().enumerate() {
+            let note = self.book.notes().get(g).copied().flatten();
+            if busy(*view) != note.map(as_generator) {
+                return Err(format!(
+                    "demand 3: generator {g} is {view:?}, the book has {note:?}"
+                ));
+            }
+        }
+        let order = record.oldest_first.as_slice();
+        let moment = |g: u8| self.last_note[usize::from(g)];
+        match order.windows(2).find(|pair| moment(pair[0]) >= moment(pair[1])) {
+            Some(pair) => Err(format!(
+                "order of age: generator {} is older than {} in the record, but its last note came later",
+                pair[0], pair[1]
+            )),
+            None => sounding_are_ordered(record),
+        }
+    }
+}
+
+/// The order of age must hold the sounding generators, each once.
+fn sounding_are_ordered(record: &Record) -> Result<(), String> {
+    let order = record.oldest_first.as_slice();
+    let ordered = order.iter().fold(0u64, |set, &g| set | 1 << g);
+    let sounding = record
+        .generators
+        .iter()
+        .enumerate()
+        .filter(|(_, view)| view.state != State::Idle)
+        .fold(0u64, |set, (g, _)| set | 1 << g);
+    if ordered != sounding || order.len() != sounding.count_ones() as usize {
+        return Err(format!(
+            "order of age: it has {order:?}, sounding are {sounding:#b}"
+        ));
+    }
+    Ok(())
+}
+
+/// "Anywhere in the list": a theft or refusal on an unmasked channel needs a note on every generator, none of them
+/// one that the note ends.
+fn justified(
+    had: &Book,
+    (channel, key): (u8, u8),
+    answer: Answer,
+    seen: Seen,
+    exercised: &mut Exercised,
+) -> Result<(), String> {
+    let stolen = matches!(
+        answer,
+        Answer::Note {
+            was: Was::Stolen,
+            ..
+        }
+    ) || matches!(seen, Seen::Stolen(_));
+    let refused = answer.number().is_some() && had.share(channel).is_some();
+    if !stolen && !refused {
+        return Ok(());
+    }
+    exercised.thefts_and_refusals += 1;
+    let needed = had
+        .notes()
+        .iter()
+        .all(|note| note.is_some_and(|note| !Book::ended_by(channel, key, note)));
+    if needed {
+        return Ok(());
+    }
+    Err(format!(
+        "demand 3: the note-on of channel {} key {key} answers {answer:?} although a generator was free for it",
+        channel + 1
+    ))
+}
+
+fn busy(view: GeneratorView) -> Option<GeneratorView> {
+    matches!(view.state, State::Held | State::Sustained).then_some(view)
+}
+
+fn as_generator(note: Note) -> GeneratorView {
+    GeneratorView {
+        state: if note.down {
+            State::Held
+        } else {
+            State::Sustained
+        },
+        channel: note.channel + 1,
+        key: note.key,
+    }
+}

@@ -1,0 +1,189 @@
+//! Feeds two implementations the same lists and compares answers, queries and whole records after
+//! every event, with the book and its claims beside them.
+
+use crate::book::Slip;
+use crate::claims::{Claims, Exercised};
+use crate::lists::{Event, Kind, List};
+use crate::record::{difference, Given, Implementation, Malformed, Record};
+use crate::tally::Tally;
+use paper::{Answer, Number};
+use random::Random;
+use std::fmt;
+
+/// What a run reached.
+#[derive(Clone, Debug, Default)]
+pub struct Reached {
+    pub events: u64,
+    pub lists: u64,
+    pub tally: Tally,
+    pub claims: Exercised,
+}
+
+/// The first difference of a run.
+#[derive(Debug)]
+pub struct Failure {
+    pub what: String,
+    pub event: u64,
+    kind: Kind,
+    start: (u8, u8),
+    /// The last events up to the one that differed.
+    recent: Vec<Event>,
+}
+
+const RECENT: usize = 20;
+
+impl fmt::Display for Failure {
+    fn fmt(&self, f: &mut fmt::Formatter<'_>) -> fmt::Result {
+        writeln!(f, "difference at event {}: {}", self.event, self.what)?;
+        writeln!(
+            f,
+            "list of kind {:?}, P {}, ID {}",
+            self.kind, self.start.0, self.start.1
+        )?;
+        write!(f, "last {} events:", self.recent.len())?;
+        self.recent.iter().try_for_each(|event| match event {
+            Event::Byte(byte) => write!(f, " {byte:02X}"),
+            Event::Report(generator) => write!(f, " report({generator})"),
+        })
+    }
+}
+
+/// Two implementations side by side: for each, how it starts.
+pub struct Comparison<StartA, StartB> {
+    pub start_a: StartA,
+    pub start_b: StartB,
+    pub slip: Option<Slip>,
+}
+
+impl<A, B, StartA, StartB> Comparison<StartA, StartB>
+where
+    A: Implementation,
+    B: Implementation,
+    StartA: Fn(u8, u8) -> (A, Given<Answer>),
+    StartB: Fn(u8, u8) -> (B, Given<Answer>),
+{
+    /// Runs at least so many events, to the end of the last list.
+    pub fn run(&self, seed: u64, events: u64) -> (Reached, Option<Failure>) {
+        let mut random = Random::new(seed);
+        let mut reached = Reached::default();
+        while reached.events < events {
+            reached.lists += 1;
+            let list = List::new(&mut random, reached.lists);
+            let before = reached.events;
+            if let Err(what) = self.list(&list, &mut random, &mut reached) {
+                let within = (reached.events - before) as usize;
+                let failure = Failure {
+                    what,
+                    event: reached.events,
+                    kind: list.kind,
+                    start: (list.polyphony, list.id),
+                    recent: list.events[within.saturating_sub(RECENT)..within].to_vec(),
+                };
+                return (reached, Some(failure));
+            }
+        }
+        (reached, None)
+    }
+
+    fn list(&self, list: &List, random: &mut Random, reached: &mut Reached) -> Result<(), String> {
+        let (mut a, answer_a) = (self.start_a)(list.polyphony, list.id);
+        let (mut b, answer_b) = (self.start_b)(list.polyphony, list.id);
+        let answer = same("start", answer_a, answer_b)?;
+        reached.tally.answer(answer);
+        let mut claims = Claims::new(list.polyphony, list.id, answer, self.slip);
+        let mut record = same_record(&a, &b)?;
+        claims.record(&record)?;
+        for &event in &list.events {
+            reached.events += 1;
+            let answer = same("answer", happen(&mut a, event), happen(&mut b, event))?;
+            reached.tally.answer(answer);
+            if let (Event::Report(generator), Answer::Done) = (event, answer) {
+                let reported = record.generators[usize::from(generator)];
+                reached.tally.report(reported.state);
+            }
+            claims.event(event, answer, &mut reached.claims)?;
+            record = same_record(&a, &b)?;
+            claims.record(&record)?;
+            queries(&a, &b, random, &mut reached.tally)?;
+            if random.one_in(8) {
+                probe(&a, &b, random)?;
+            }
+        }
+        Ok(())
+    }
+}
+
+fn happen(device: &mut impl Implementation, event: Event) -> Given<Answer> {
+    match event {
+        Event::Byte(byte) => device.byte(byte),
+        Event::Report(generator) => device.report(generator),
+    }
+}
+
+/// What both sides gave, if it is the same and well-formed.
+fn same<T: PartialEq + fmt::Debug>(what: &str, a: Given<T>, b: Given<T>) -> Result<T, String> {
+    let (a, b) = well_formed(what, a, b)?;
+    if a == b {
+        return Ok(a);
+    }
+    Err(format!("{what}: {a:?} against {b:?}"))
+}
+
+fn well_formed<T>(what: &str, a: Given<T>, b: Given<T>) -> Result<(T, T), String> {
+    match (a, b) {
+        (Ok(a), Ok(b)) => Ok((a, b)),
+        (Err(Malformed(found)), _) | (_, Err(Malformed(found))) => {
+            Err(format!("{what}: nobody may give {found}"))
+        }
+    }
+}
+
+fn same_record(a: &impl Implementation, b: &impl Implementation) -> Result<Record, String> {
+    let (a, b) = well_formed("record", a.record(), b.record())?;
+    match difference(&a, &b) {
+        Some(what) => Err(what),
+        None => Ok(a),
+    }
+}
+
+/// Asks both one query of each kind, also for generators and channels that are none.
+fn queries(
+    a: &impl Implementation,
+    b: &impl Implementation,
+    random: &mut Random,
+    tally: &mut Tally,
+) -> Result<(), String> {
+    let (generator, channel) = match random.below(8) {
+        0 => (random.byte(), random.byte()),
+        _ => (random.below(66) as u8, random.below(18) as u8),
+    };
+    let view = same(
+        "generator query",
+        a.generator(generator),
+        b.generator(generator),
+    );
+    let masked = same("mask query", a.masked(channel), b.masked(channel));
+    let share = same("share query", a.share(channel), b.share(channel));
+    let numbers: [Option<Number>; 3] = [view?.err(), masked?.err(), share?.err()];
+    numbers.into_iter().flatten().for_each(|n| tally.query(n));
+    Ok(())
+}
+
+/// Feeds copies of both one more byte: what a parser holds shows only in what comes of it.
+fn probe(
+    a: &impl Implementation,
+    b: &impl Implementation,
+    random: &mut Random,
+) -> Result<(), String> {
+    let byte = match random.below(3) {
+        0 => 0xF7,
+        1 => random.data(),
+        _ => random.byte(),
+    };
+    let (mut a, mut b) = (a.clone(), b.clone());
+    let answers = same("answer", a.byte(byte), b.byte(byte));
+    match answers.and_then(|_| same_record(&a, &b)) {
+        Ok(_) => Ok(()),
+        Err(what) => Err(format!("if the byte {byte:02X} came next: {what}")),
+    }
+}

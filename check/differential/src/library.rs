@@ -1,0 +1,280 @@
+//! The proved library as one side of the comparison: its C structures read as the header says.
+//!
+//! "A field without meaning is 0", entries and ages behind the count "are 0", generators from the polyphony on "stay
+//! idle": what breaks such a sentence is a difference as well.
+
+use crate::record::{Given, Implementation, Items, Malformed, Record, SysExBytes, IDLE};
+use paper::{Answer, Entry, GeneratorView, Number, Progress, State, Was};
+use proved::{Device, RECORD_BYTES};
+use random::Random;
+
+const NUMBERS: [Number; 14] = [
+    Number::PolyphonyOutOfRange,
+    Number::IdOutOfRange,
+    Number::StrayData,
+    Number::SysExCut,
+    Number::MipTooLong,
+    Number::MipOddOrEmpty,
+    Number::MipChannelAbove15,
+    Number::MipChannelTwice,
+    Number::MipValueFalls,
+    Number::ChannelMasked,
+    Number::NoneToSteal,
+    Number::NoSuchGenerator,
+    Number::GeneratorIdle,
+    Number::NoSuchChannel,
+];
+
+/// What the memory holds before a start, which "makes the record, whatever the memory held before", and beside it.
+const RUBBISH: u8 = 0xA5;
+
+/// As much memory on each side as a byte, taken for the number of any element of the record, could reach.
+const GUARD: usize = 4096;
+
+/// A record with some memory on both sides: the library "writes nothing but the record that it is lent".
+#[repr(C)]
+#[derive(Clone)]
+pub struct Lent {
+    before: [u8; GUARD],
+    device: Device,
+    after: [u8; GUARD],
+}
+
+impl Lent {
+    fn new(bytes: [u8; RECORD_BYTES]) -> Lent {
+        Lent {
+            before: [RUBBISH; GUARD],
+            device: Device::memory(bytes),
+            after: [RUBBISH; GUARD],
+        }
+    }
+
+    fn neighbours_untouched(&self) -> Given<()> {
+        if self.before == [RUBBISH; GUARD] && self.after == [RUBBISH; GUARD] {
+            return Ok(());
+        }
+        Err(Malformed("memory beside the record".to_string()))
+    }
+}
+
+pub fn start(polyphony: u8, id: u8) -> (Lent, Given<Answer>) {
+    let mut lent = Lent::new([RUBBISH; RECORD_BYTES]);
+    let answer = lent.device.start(polyphony, id);
+    (lent, answer_of(answer))
+}
+
+/// Calls on records that no start made: each "still returns, and touches no memory but the record".
+pub fn survive_rubbish(random: &mut Random, records: usize) -> Given<()> {
+    for _ in 0..records {
+        let mut lent = Lent::new(std::array::from_fn(|_| random.byte()));
+        for _ in 0..20 {
+            lent.device.byte(random.byte());
+            lent.device.report(random.byte());
+            lent.device.generator(random.byte());
+            lent.device.mask(random.byte());
+            lent.device.share(random.byte());
+        }
+        lent.neighbours_untouched()?;
+    }
+    Ok(())
+}
+
+fn number_of(number: u8) -> Option<Number> {
+    NUMBERS.get(usize::from(number.wrapping_sub(1))).copied()
+}
+
+fn answer_of(raw: proved::Answer) -> Given<Answer> {
+    let proved::Answer {
+        what,
+        number,
+        channel,
+        key,
+        generator,
+        was,
+    } = raw;
+    let was = [Was::Idle, Was::Release, Was::Stolen]
+        .get(usize::from(was))
+        .copied();
+    let answer = match (what, number_of(number), was) {
+        (proved::NONE, None, _) => Some(Answer::None),
+        (proved::DONE, None, _) => Some(Answer::Done),
+        (proved::NOTE, None, Some(was)) => Some(Answer::Note {
+            channel,
+            key,
+            generator,
+            was,
+        }),
+        (proved::NUMBER, Some(number @ (Number::ChannelMasked | Number::NoneToSteal)), _) => {
+            Some(Answer::NoteRefused {
+                number,
+                channel,
+                key,
+            })
+        }
+        (proved::NUMBER, Some(number), _) => Some(Answer::Refused(number)),
+        _ => None,
+    };
+    match answer {
+        Some(answer) if raw_of(answer) == raw => Ok(answer),
+        _ => Err(Malformed(format!("{raw:?}"))),
+    }
+}
+
+/// The bytes that the header demands for an answer, "a field without meaning is 0" included.
+fn raw_of(answer: Answer) -> proved::Answer {
+    let [what, number, channel, key, generator, was] = match answer {
+        Answer::None => [proved::NONE, 0, 0, 0, 0, 0],
+        Answer::Done => [proved::DONE, 0, 0, 0, 0, 0],
+        Answer::Note {
+            channel,
+            key,
+            generator,
+            was,
+        } => [proved::NOTE, 0, channel, key, generator, was as u8],
+        Answer::Refused(number) => [proved::NUMBER, number as u8, 0, 0, 0, 0],
+        Answer::NoteRefused {
+            number,
+            channel,
+            key,
+        } => [proved::NUMBER, number as u8, channel, key, 0, 0],
+    };
+    proved::Answer {
+        what,
+        number,
+        channel,
+        key,
+        generator,
+        was,
+    }
+}
+
+fn state_of(state: u8) -> Option<State> {
+    let states = [State::Idle, State::Held, State::Sustained, State::Releasing];
+    states.get(usize::from(state)).copied()
+}
+
+fn view_of(state: u8, channel: u8, key: u8) -> Option<GeneratorView> {
+    let view = GeneratorView {
+        state: state_of(state)?,
+        channel,
+        key,
+    };
+    (view.state != State::Idle || view == IDLE).then_some(view)
+}
+
+/// The parser's message under way. A System Common that swallows keeps its status here, of which only the bytes
+/// that are still missing can be observed.
+fn progress_of(parser: &proved::Parser) -> Given<Progress> {
+    match (parser.status, parser.count) {
+        (0, 0) => Ok(Progress::NoStatus),
+        (status @ 0x80..=0xEF, 0) => Ok(Progress::Status(status)),
+        (status @ 0x80..=0xEF, 1) => Ok(Progress::StatusAndData(status, parser.bytes[0])),
+        (0xF0, 0..=37) => Ok(Progress::SysEx),
+        (0xF1 | 0xF3, 0) | (0xF2, 1) => Ok(Progress::Swallow(1)),
+        (0xF2, 0) => Ok(Progress::Swallow(2)),
+        _ => Err(Malformed(format!("{parser:?}"))),
+    }
+}
+
+fn sysex_of(parser: &proved::Parser) -> SysExBytes {
+    match parser.status {
+        0xF0 => SysExBytes::new(&parser.bytes[..usize::from(parser.count).min(37)]),
+        _ => SysExBytes::new(&[]),
+    }
+}
+
+fn entries_of(table: &proved::Table) -> Given<Items<Entry, 16>> {
+    let (used, unused) = split(&table.entries, table.count);
+    let zeros = |entry: &proved::Entry| entry.channel == 0 && entry.value == 0;
+    let in_range = |entry: &proved::Entry| (1..=16).contains(&entry.channel);
+    let wire = |entry: &proved::Entry| Entry {
+        channel: entry.channel.wrapping_sub(1),
+        value: entry.value,
+    };
+    if table.count > 16 || !used.iter().all(in_range) || !unused.iter().all(zeros) {
+        return Err(Malformed(format!("{table:?}")));
+    }
+    Ok(Items::new(Entry::default(), used.iter().map(wire)))
+}
+
+fn ages_of(ages: &proved::Ages) -> Given<Items<u8, 64>> {
+    let (used, unused) = split(&ages.generator, ages.count);
+    if ages.count > 64 || used.iter().any(|&g| g >= 64) || unused.iter().any(|&g| g != 0) {
+        return Err(Malformed(format!("{ages:?}")));
+    }
+    Ok(Items::new(0, used.iter().copied()))
+}
+
+/// The places that a count says are used, and the others.
+fn split<T>(places: &[T], count: u8) -> (&[T], &[T]) {
+    places.split_at(usize::from(count).min(places.len()))
+}
+
+fn generators_of(raw: &proved::Generators) -> Given<[GeneratorView; 64]> {
+    let mut generators = [IDLE; 64];
+    for (g, view) in generators.iter_mut().enumerate() {
+        let (state, channel, key) = (raw.state[g], raw.channel[g], raw.key[g]);
+        *view = view_of(state, channel, key).ok_or_else(|| {
+            Malformed(format!(
+                "generator {g} with state {state}, channel {channel}, key {key}"
+            ))
+        })?;
+    }
+    Ok(generators)
+}
+
+/// A query's answer: its number "and the other fields are then 0", or what it asks for.
+fn query_of<T>(number: u8, rest: &[u8], value: Option<T>) -> Given<Result<T, Number>> {
+    let refused = number_of(number).filter(|_| rest.iter().all(|&field| field == 0));
+    match (number, refused, value) {
+        (0, _, Some(value)) => Ok(Ok(value)),
+        (_, Some(number), _) => Ok(Err(number)),
+        _ => Err(Malformed(format!("number {number}, then {rest:?}"))),
+    }
+}
+
+impl Implementation for Lent {
+    fn byte(&mut self, byte: u8) -> Given<Answer> {
+        answer_of(self.device.byte(byte))
+    }
+
+    fn report(&mut self, generator: u8) -> Given<Answer> {
+        answer_of(self.device.report(generator))
+    }
+
+    fn generator(&self, generator: u8) -> Given<Result<GeneratorView, Number>> {
+        let raw = self.device.generator(generator);
+        let rest = [raw.state, raw.channel, raw.key];
+        query_of(raw.number, &rest, view_of(raw.state, raw.channel, raw.key))
+    }
+
+    fn masked(&self, channel: u8) -> Given<Result<bool, Number>> {
+        let raw = self.device.mask(channel);
+        let masked = match raw.masked {
+            0 => Some(false),
+            1 => Some(true),
+            _ => None,
+        };
+        query_of(raw.number, &[raw.masked], masked)
+    }
+
+    fn share(&self, channel: u8) -> Given<Result<u8, Number>> {
+        let raw = self.device.share(channel);
+        query_of(raw.number, &[raw.share], Some(raw.share))
+    }
+
+    fn record(&self) -> Given<Record> {
+        self.neighbours_untouched()?;
+        let instrument = &self.device.instrument;
+        Ok(Record {
+            polyphony: instrument.polyphony,
+            id: instrument.id,
+            entries: entries_of(&instrument.table)?,
+            channels: instrument.channels,
+            generators: generators_of(&instrument.generators)?,
+            oldest_first: ages_of(&instrument.generators.ages)?,
+            progress: progress_of(&self.device.parser)?,
+            sysex: sysex_of(&self.device.parser),
+        })
+    }
+}

@@ -1,0 +1,192 @@
+//! The lists of events that both sides are fed: each a start, then bytes and reports.
+
+use crate::song::SONG;
+use crate::writer::{Mix, Writer, FAULTS, PEDALS, PLAYING, TABLES};
+use random::Random;
+
+#[derive(Clone, Copy, Debug, PartialEq, Eq)]
+pub enum Event {
+    Byte(u8),
+    Report(u8),
+}
+
+#[derive(Clone, Copy, Debug, PartialEq, Eq)]
+pub enum Kind {
+    /// Uniform random bytes, some reports.
+    Noise,
+    /// Messages, mostly notes.
+    Playing,
+    /// Messages, many pedals and controllers.
+    Pedals,
+    /// Messages, many MIP messages and resets.
+    Tables,
+    /// Messages, many wrong ones.
+    Faults,
+    /// The song with bytes changed, put in and left out.
+    Song,
+    /// Messages around a SysEx of about 100,000 bytes with real-time bytes within.
+    LongSysEx,
+}
+
+pub struct List {
+    pub kind: Kind,
+    pub polyphony: u8,
+    pub id: u8,
+    pub events: Vec<Event>,
+}
+
+/// How often each kind of list comes, but for the long one: it is every 200th list.
+const KINDS: [(usize, Kind); 6] = [
+    (4, Kind::Noise),
+    (4, Kind::Playing),
+    (3, Kind::Pedals),
+    (3, Kind::Tables),
+    (3, Kind::Faults),
+    (3, Kind::Song),
+];
+const LONG_EVERY: u64 = 200;
+
+const POLYPHONIES: [u8; 10] = [1, 2, 3, 4, 8, 16, 24, 32, 63, 64];
+const REFUSED_STARTS: [(u8, u8); 7] = [
+    (0, 0),
+    (65, 7),
+    (255, 0),
+    (4, 127),
+    (64, 255),
+    (0, 127),
+    (255, 255),
+];
+
+impl List {
+    /// The list with this number in its run, counted from 1.
+    pub fn new(random: &mut Random, number: u64) -> List {
+        let kind = match number % LONG_EVERY {
+            0 => Kind::LongSysEx,
+            _ => pick_weighted(random, &KINDS),
+        };
+        let (polyphony, id) = start(random);
+        let length = 500 + random.below(8000);
+        let events = match kind {
+            Kind::Noise => noise(random, length, polyphony),
+            Kind::Playing => messages(random, length, (polyphony, id), PLAYING),
+            Kind::Pedals => messages(random, length, (polyphony, id), PEDALS),
+            Kind::Tables => messages(random, length, (polyphony, id), TABLES),
+            Kind::Faults => messages(random, length, (polyphony, id), FAULTS),
+            Kind::Song => mutated_songs(random, length, polyphony),
+            Kind::LongSysEx => long_sysex(random, (polyphony, id)),
+        };
+        List {
+            kind,
+            polyphony,
+            id,
+            events,
+        }
+    }
+}
+
+pub fn pick_weighted<T: Copy>(random: &mut Random, choices: &[(usize, T)]) -> T {
+    let mut left = random.below(choices.iter().map(|choice| choice.0).sum());
+    for &(weight, item) in choices {
+        if left < weight {
+            return item;
+        }
+        left -= weight;
+    }
+    unreachable!("the weights add up")
+}
+
+fn start(random: &mut Random) -> (u8, u8) {
+    if random.one_in(10) {
+        return random.pick(&REFUSED_STARTS);
+    }
+    let polyphony = match random.below(4) {
+        0 => 1 + random.below(64) as u8,
+        _ => random.pick(&POLYPHONIES),
+    };
+    let id = match random.below(3) {
+        0 => random.below(127) as u8,
+        _ => random.pick(&[0, 1, 126]),
+    };
+    (polyphony, id)
+}
+
+/// A generator number for a report: mostly one of the device's, sometimes any byte.
+pub fn some_generator(random: &mut Random, polyphony: u8) -> u8 {
+    match random.below(16) {
+        0 => random.byte(),
+        1 => random.pick(&[0, 1, 63, 64, 65, 255]),
+        _ => random.below(usize::from(polyphony) + 1) as u8,
+    }
+}
+
+fn noise(random: &mut Random, length: usize, polyphony: u8) -> Vec<Event> {
+    (0..length)
+        .map(|_| match random.below(20) {
+            0 => Event::Report(some_generator(random, polyphony)),
+            _ => Event::Byte(random.byte()),
+        })
+        .collect()
+}
+
+fn messages(random: &mut Random, length: usize, start: (u8, u8), mix: Mix) -> Vec<Event> {
+    let mut writer = Writer::new(random, start);
+    while writer.events.len() < length {
+        writer.phrase(mix);
+    }
+    writer.events
+}
+
+/// The song again and again, each time with other mutations, seldom or often.
+fn mutated_songs(random: &mut Random, length: usize, polyphony: u8) -> Vec<Event> {
+    let mut events = Vec::new();
+    while events.len() < length {
+        let seldom = random.pick(&[5, 20, 100, 1000]);
+        for &byte in SONG {
+            if random.one_in(16) {
+                events.push(Event::Report(some_generator(random, polyphony)));
+            }
+            if random.one_in(seldom) {
+                mutate(random, byte, &mut events);
+            } else {
+                events.push(Event::Byte(byte));
+            }
+        }
+    }
+    events
+}
+
+fn mutate(random: &mut Random, byte: u8, events: &mut Vec<Event>) {
+    match random.below(5) {
+        // Left out.
+        0 => {}
+        // Another byte instead.
+        1 => events.push(Event::Byte(random.byte())),
+        // One bit changed.
+        2 => events.push(Event::Byte(byte ^ 1 << random.below(8))),
+        // Twice.
+        3 => events.extend([Event::Byte(byte); 2]),
+        // A byte put in before it.
+        _ => events.extend([Event::Byte(random.byte()), Event::Byte(byte)]),
+    }
+}
+
+fn long_sysex(random: &mut Random, start: (u8, u8)) -> Vec<Event> {
+    let mut events = messages(random, 1000, start, PLAYING);
+    let head = random.pick(&[[0x7F, 0x7F, 0x0B, 0x01], [0x7E, 0x7F, 0x09, 0x01]]);
+    events.push(Event::Byte(0xF0));
+    events.extend(head.map(Event::Byte));
+    for _ in 0..100_000 {
+        let byte = match random.below(10) {
+            0 => 0xF8 + random.below(8) as u8,
+            _ => random.data(),
+        };
+        events.push(Event::Byte(byte));
+        if random.one_in(1000) {
+            events.push(Event::Report(some_generator(random, start.0)));
+        }
+    }
+    let end = random.pick(&[0xF7, 0xF7, 0x90, 0xF0, 0xF4]);
+    events.push(Event::Byte(end));
+    events.extend(messages(random, 1000, start, PLAYING));
+    events
+}

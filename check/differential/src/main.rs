@@ -1,0 +1,132 @@
+//! `differential`: the proved library and the second implementation on the same events.
+//!
+//! `--events N` and `--seed S` choose the run; `--self-test` shows instead that the comparison finds wrong
+//! variants. The exit code is 0 only if nothing differed and every answer was reached.
+
+mod book;
+mod claims;
+mod compare;
+mod drums;
+mod library;
+mod lists;
+mod plain;
+mod record;
+mod reference;
+mod self_test;
+mod song;
+mod split;
+mod tally;
+mod writer;
+
+use compare::{Comparison, Reached};
+use random::Random;
+use std::process::ExitCode;
+use std::time::Instant;
+
+struct Options {
+    events: u64,
+    seed: u64,
+    self_test: bool,
+}
+
+fn options() -> Result<Options, String> {
+    let mut options = Options {
+        events: 5_000_000,
+        seed: 1,
+        self_test: false,
+    };
+    let mut arguments = std::env::args().skip(1);
+    while let Some(argument) = arguments.next() {
+        let mut number = || {
+            let value = arguments.next().unwrap_or_default();
+            value
+                .parse::<u64>()
+                .map_err(|_| format!("{argument} needs a number"))
+        };
+        match argument.as_str() {
+            "--events" => options.events = number()?,
+            "--seed" => options.seed = number()?,
+            "--self-test" => options.self_test = true,
+            _ => return Err(format!("unknown argument {argument}")),
+        }
+    }
+    Ok(options)
+}
+
+fn main() -> ExitCode {
+    let outcome = options().and_then(|options| {
+        println!("seed {}", options.seed);
+        if options.self_test {
+            self_test(options.seed)
+        } else {
+            differential(&options)
+        }
+    });
+    match outcome {
+        Ok(()) => ExitCode::SUCCESS,
+        Err(message) => {
+            println!("{message}");
+            ExitCode::FAILURE
+        }
+    }
+}
+
+fn self_test(seed: u64) -> Result<(), String> {
+    let complaints = self_test::run(seed);
+    if !complaints.is_empty() {
+        return Err(complaints.join("\n"));
+    }
+    println!("self-test: ok");
+    Ok(())
+}
+
+fn differential(options: &Options) -> Result<(), String> {
+    let comparison = Comparison {
+        start_a: reference::start,
+        start_b: library::start,
+        slip: None,
+    };
+    let clock = Instant::now();
+    let (reached, failure) = comparison.run(options.seed, options.events);
+    if let Some(failure) = failure {
+        return Err(format!(
+            "seed {}, second implementation against proved library: {failure}",
+            options.seed
+        ));
+    }
+    print(&reached, clock.elapsed().as_secs_f64());
+    rubbish(options.seed)?;
+    let mut missing = reached.tally.missing();
+    if reached.claims.within_share_and_full == 0 || reached.claims.thefts_and_refusals == 0 {
+        missing.push("a case of demand 3".to_string());
+    }
+    if !missing.is_empty() {
+        return Err(format!("never reached: {}", missing.join(", ")));
+    }
+    println!("differential: ok");
+    Ok(())
+}
+
+/// Records that no start made.
+fn rubbish(seed: u64) -> Result<(), String> {
+    const RECORDS: usize = 20_000;
+    let survived = library::survive_rubbish(&mut Random::new(seed), RECORDS);
+    survived.map_err(|found| format!("a record full of rubbish: {} was written", found.0))?;
+    println!(
+        "{RECORDS} records full of rubbish: every call returned and wrote nothing beside them"
+    );
+    Ok(())
+}
+
+fn print(reached: &Reached, seconds: f64) {
+    println!(
+        "{} events in {} lists, {seconds:.1} s",
+        reached.events, reached.lists
+    );
+    print!("{}", reached.tally);
+    println!("demand 3: {} note-ons within share, {} of them with every generator taken; {} thefts and refusals justified",
+        reached.claims.within_share,
+        reached.claims.within_share_and_full,
+        reached.claims.thefts_and_refusals
+    );
+}

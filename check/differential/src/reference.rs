@@ -1,0 +1,61 @@
+//! The second implementation, the crate `paper`, as one side of the comparison.
+
+use crate::record::{Given, Implementation, Items, Record, SysExBytes, IDLE};
+use paper::{Answer, Device, Entry, GeneratorView, Number, Progress, SysEx, MOST_GENERATORS};
+
+pub fn start(polyphony: u8, id: u8) -> (Device, Given<Answer>) {
+    let (device, answer) = Device::start(polyphony, id);
+    (device, Ok(answer))
+}
+
+/// The bytes of a SysEx that overflowed count one more than were kept.
+fn sysex_bytes(sysex: &SysEx) -> SysExBytes {
+    let mut bytes = [0; 37];
+    let kept = sysex.kept().len();
+    bytes[..kept].copy_from_slice(sysex.kept());
+    SysExBytes::new(&bytes[..kept + usize::from(sysex.overflowed())])
+}
+
+impl Implementation for Device {
+    fn byte(&mut self, byte: u8) -> Given<Answer> {
+        Ok(Device::byte(self, byte))
+    }
+
+    fn report(&mut self, generator: u8) -> Given<Answer> {
+        Ok(Device::report(self, generator))
+    }
+
+    fn generator(&self, generator: u8) -> Given<Result<GeneratorView, Number>> {
+        Ok(Device::generator(self, generator))
+    }
+
+    fn masked(&self, channel: u8) -> Given<Result<bool, Number>> {
+        Ok(Device::masked(self, channel))
+    }
+
+    fn share(&self, channel: u8) -> Given<Result<u8, Number>> {
+        Ok(Device::share(self, channel))
+    }
+
+    fn record(&self) -> Given<Record> {
+        let mut generators = [IDLE; MOST_GENERATORS];
+        for (g, view) in generators.iter_mut().enumerate() {
+            *view = Device::generator(self, g as u8).unwrap_or(IDLE);
+        }
+        let progress = self.parser().progress();
+        let sysex = match progress {
+            Progress::SysEx => sysex_bytes(self.parser().sysex()),
+            _ => SysExBytes::new(&[]),
+        };
+        Ok(Record {
+            polyphony: self.polyphony(),
+            id: self.id(),
+            entries: Items::new(Entry::default(), self.table().entries().iter().copied()),
+            channels: self.channels().map(|channel| channel.numbers()),
+            generators,
+            oldest_first: Items::new(0, self.oldest_first()),
+            progress,
+            sysex,
+        })
+    }
+}

@@ -1,0 +1,59 @@
+//! What a call answers: the paper's *note*, *done*, *none*, or one of the numbers 1 to 14.
+
+/// "What the generator was" before a note took it.
+#[derive(Clone, Copy, Debug, PartialEq, Eq)]
+pub enum Was {
+    Idle,
+    Release,
+    Stolen,
+}
+
+/// The table "Numbers and what they leave".
+#[derive(Clone, Copy, Debug, PartialEq, Eq)]
+#[repr(u8)]
+pub enum Number {
+    PolyphonyOutOfRange = 1,
+    IdOutOfRange = 2,
+    StrayData = 3,
+    SysExCut = 4,
+    MipTooLong = 5,
+    MipOddOrEmpty = 6,
+    MipChannelAbove15 = 7,
+    MipChannelTwice = 8,
+    MipValueFalls = 9,
+    ChannelMasked = 10,
+    NoneToSteal = 11,
+    NoSuchGenerator = 12,
+    GeneratorIdle = 13,
+    NoSuchChannel = 14,
+}
+
+/// "The answer is *note*, *done*, *none*, or a number." Channels count from 1 to 16 here, as in the paper.
+#[derive(Clone, Copy, Debug, PartialEq, Eq)]
+pub enum Answer {
+    None,
+    Done,
+    Note {
+        channel: u8,
+        key: u8,
+        generator: u8,
+        was: Was,
+    },
+    Refused(Number),
+    /// Numbers 10 and 11 "give channel and key".
+    NoteRefused {
+        number: Number,
+        channel: u8,
+        key: u8,
+    },
+}
+
+impl Answer {
+    /// The paper's number, or `None` for an answer that is no refusal.
+    pub fn number(self) -> Option<Number> {
+        match self {
+            Answer::Refused(number) | Answer::NoteRefused { number, .. } => Some(number),
+            _ => None,
+        }
+    }
+}

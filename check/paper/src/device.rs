@@ -1,0 +1,261 @@
+//! The device: start, bytes, reports and queries.
+
+use crate::answer::{Answer, Number, Was};
+use crate::channel::{controller, Channel};
+use crate::generators::{GeneratorView, Generators};
+use crate::parser::{Completed, Parser, HEAD_BYTES};
+use crate::table::Table;
+
+/// Channel 10 on the wire.
+const DRUM_CHANNEL: u8 = 9;
+/// The *d* that speaks to every device.
+const EVERY_DEVICE: u8 = 0x7F;
+
+/// The device record.
+#[derive(Clone, Copy, Debug)]
+pub struct Device {
+    polyphony: u8,
+    id: u8,
+    parser: Parser,
+    table: Table,
+    channels: [Channel; 16],
+    generators: Generators,
+}
+
+impl Device {
+    /// Starts a device. A refused start leaves a "fresh record, P 1, ID 0".
+    pub fn start(polyphony: u8, id: u8) -> (Device, Answer) {
+        if !(1..=64).contains(&polyphony) {
+            let answer = Answer::Refused(Number::PolyphonyOutOfRange);
+            return (Device::fresh(1, 0), answer);
+        }
+        if id > 126 {
+            let answer = Answer::Refused(Number::IdOutOfRange);
+            return (Device::fresh(1, 0), answer);
+        }
+        (Device::fresh(polyphony, id), Answer::Done)
+    }
+
+    fn fresh(polyphony: u8, id: u8) -> Device {
+        Device {
+            polyphony,
+            id,
+            parser: Parser::FRESH,
+            table: Table::starting(polyphony),
+            channels: [Channel::FRESH; 16],
+            generators: Generators::idle(polyphony),
+        }
+    }
+
+    /// Takes one byte of the wire.
+    pub fn byte(&mut self, byte: u8) -> Answer {
+        match self.parser.byte(byte) {
+            Completed::Nothing => Answer::None,
+            Completed::Message {
+                status,
+                first,
+                second,
+            } => self.message(status, first, second),
+            Completed::StrayData => Answer::Refused(Number::StrayData),
+            Completed::SysExCut => Answer::Refused(Number::SysExCut),
+            Completed::SysEx => self.sysex(),
+        }
+    }
+
+    /// The tone generator reports the end of a generator.
+    pub fn report(&mut self, generator: u8) -> Answer {
+        if generator >= self.polyphony {
+            return Answer::Refused(Number::NoSuchGenerator);
+        }
+        if !self.generators.is_sounding(generator) {
+            return Answer::Refused(Number::GeneratorIdle);
+        }
+        self.generators.silence(generator);
+        Answer::Done
+    }
+
+    /// A complete channel message. Out of line, as is `sysex`, so that a byte that completes nothing stays cheap.
+    #[inline(never)]
+    fn message(&mut self, status: u8, first: u8, second: u8) -> Answer {
+        let channel = status & 0x0F;
+        let numbers = &mut self.channels[usize::from(channel)];
+        match status & 0xF0 {
+            0x90 if second > 0 => return self.note_on(channel, first),
+            0x80 | 0x90 => self.note_off(channel, first),
+            0xB0 => self.controller(channel, first, second),
+            0xC0 => numbers.program = first,
+            0xE0 => {
+                numbers.bend_lsb = first;
+                numbers.bend_msb = second;
+            }
+            // Pressure changes nothing.
+            _ => {}
+        }
+        Answer::Done
+    }
+
+    /// "Note-on, velocity above 0", steps 1 to 5.
+    fn note_on(&mut self, channel: u8, key: u8) -> Answer {
+        let refused = |number| Answer::NoteRefused {
+            number,
+            channel: channel + 1,
+            key,
+        };
+        if self.table.share(channel).is_none() {
+            return refused(Number::ChannelMasked);
+        }
+        self.generators.release_key(channel, key);
+        if channel == DRUM_CHANNEL {
+            self.generators.silence_group(channel, key);
+        }
+        let (generator, was) = if let Some(generator) = self.generators.lowest_idle() {
+            (generator, Was::Idle)
+        } else if let Some(generator) = self.generators.oldest_releasing() {
+            (generator, Was::Release)
+        } else if let Some(generator) = self.victim(channel) {
+            (generator, Was::Stolen)
+        } else {
+            return refused(Number::NoneToSteal);
+        };
+        self.generators.assign(generator, channel, key);
+        Answer::Note {
+            channel: channel + 1,
+            key,
+            generator,
+            was,
+        }
+    }
+
+    /// Step 5: "count each channel's busy generators, with the new note. Among channels over their
+    /// share take that of lowest priority. Its oldest busy generator is stolen."
+    fn victim(&self, new_note: u8) -> Option<u8> {
+        let (loser, _) = self
+            .table
+            .lowest_priority_first()
+            .find(|&(channel, share)| {
+                self.generators.busy_count(channel) + u8::from(channel == new_note) > share
+            })?;
+        self.generators.oldest_busy(loser)
+    }
+
+    /// "On channel 10 it changes nothing; a drum ends by its report."
+    fn note_off(&mut self, channel: u8, key: u8) {
+        if channel != DRUM_CHANNEL {
+            let pedal_down = self.channels[usize::from(channel)].pedal_down();
+            self.generators.key_up(channel, key, pedal_down);
+        }
+    }
+
+    fn controller(&mut self, channel: u8, number: u8, value: u8) {
+        let numbers = &mut self.channels[usize::from(channel)];
+        match (number, value) {
+            (controller::ALL_SOUND_OFF, 0) => self.generators.silence_channel(channel),
+            (controller::RESET_ALL_CONTROLLERS, 0) => {
+                numbers.reset_controllers();
+                self.generators.pedal_up(channel);
+            }
+            (controller::ALL_NOTES_OFF, 0) => {
+                let pedal_down = numbers.pedal_down() && channel != DRUM_CHANNEL;
+                self.generators.all_keys_up(channel, pedal_down);
+            }
+            _ => {
+                numbers.store(number, value);
+                if number == controller::HOLD && !numbers.pedal_down() {
+                    self.generators.pedal_up(channel);
+                }
+            }
+        }
+    }
+
+    /// The F7 of a SysEx: a MIP message or GM System On for this device, or nothing of ours.
+    #[inline(never)]
+    fn sysex(&mut self) -> Answer {
+        let sysex = *self.parser.sysex();
+        let [kind, d, sub_id_1, sub_id_2, rest @ ..] = sysex.kept() else {
+            return Answer::None;
+        };
+        debug_assert_eq!(sysex.kept().len() - rest.len(), HEAD_BYTES);
+        if *d != EVERY_DEVICE && *d != self.id {
+            return Answer::None;
+        }
+        match (kind, sub_id_1, sub_id_2) {
+            (0x7F, 0x0B, 0x01) if sysex.overflowed() => Answer::Refused(Number::MipTooLong),
+            (0x7F, 0x0B, 0x01) => match Table::read(rest, self.polyphony) {
+                Ok(table) => self.replace_table(table),
+                Err(number) => Answer::Refused(number),
+            },
+            (0x7E, 0x09, 0x01) if rest.is_empty() => {
+                *self = Device::fresh(self.polyphony, self.id);
+                Answer::Done
+            }
+            _ => Answer::None,
+        }
+    }
+
+    /// "An accepted message replaces the table. Busy generators of newly masked channels become releasing."
+    fn replace_table(&mut self, table: Table) -> Answer {
+        self.table = table;
+        for channel in 0..16 {
+            if self.table.share(channel).is_none() {
+                self.generators.release_channel(channel);
+            }
+        }
+        Answer::Done
+    }
+}
+
+/// "Queries change nothing. A refused query gives its number only."
+impl Device {
+    /// A generator's state, channel (from 1) and key.
+    pub fn generator(&self, generator: u8) -> Result<GeneratorView, Number> {
+        if generator >= self.polyphony {
+            return Err(Number::NoSuchGenerator);
+        }
+        Ok(self.generators.view(generator))
+    }
+
+    /// Whether a channel, 1 to 16, is masked.
+    pub fn masked(&self, channel: u8) -> Result<bool, Number> {
+        Ok(self.table.share(wire(channel)?).is_none())
+    }
+
+    /// The share of a channel, 1 to 16, "0 if masked".
+    pub fn share(&self, channel: u8) -> Result<u8, Number> {
+        Ok(self.table.share(wire(channel)?).unwrap_or(0))
+    }
+}
+
+fn wire(channel: u8) -> Result<u8, Number> {
+    match channel {
+        1..=16 => Ok(channel - 1),
+        _ => Err(Number::NoSuchChannel),
+    }
+}
+
+/// The record, field by field, for a comparison with another implementation.
+impl Device {
+    pub fn polyphony(&self) -> u8 {
+        self.polyphony
+    }
+
+    pub fn id(&self) -> u8 {
+        self.id
+    }
+
+    pub fn parser(&self) -> &Parser {
+        &self.parser
+    }
+
+    pub fn table(&self) -> &Table {
+        &self.table
+    }
+
+    pub fn channels(&self) -> &[Channel; 16] {
+        &self.channels
+    }
+
+    /// The sounding generators, the oldest first.
+    pub fn oldest_first(&self) -> impl Iterator<Item = u8> + '_ {
+        self.generators.oldest_first()
+    }
+}

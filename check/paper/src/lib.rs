@@ -1,0 +1,23 @@
+//! Document 01, "The note allocator of a scalable polyphony module", written by hand in plain Rust.
+//!
+//! This is a second implementation, made from the paper alone. It serves as the other side of the
+//! differential test and as the baseline of the benchmark, so it is written as for a small sound
+//! module: fixed arrays, bit sets for the generators, no allocation, no panic on any input.
+//!
+//! Quoted words in the comments are the paper's.
+
+mod age;
+mod answer;
+mod channel;
+mod device;
+mod drums;
+mod generators;
+mod parser;
+mod table;
+
+pub use answer::{Answer, Number, Was};
+pub use channel::Channel;
+pub use device::Device;
+pub use generators::{GeneratorView, State, MOST_GENERATORS};
+pub use parser::{Parser, Progress, SysEx, HEAD_BYTES, PAIR_BYTES};
+pub use table::{Entry, Table};

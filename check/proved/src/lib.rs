@@ -1,0 +1,169 @@
+//! The proved library through its C header, `include/muntinorris.h`: the same structures, the same six calls.
+//!
+//! The only unsafe code is here. The header wants a record that a start made; on any other bytes a call "still returns, and
+//! touches no memory but the record", so that nothing here can go wrong for Rust.
+
+/// `struct muntinorris_answer`.
+#[repr(C)]
+#[derive(Clone, Copy, Debug, PartialEq, Eq)]
+pub struct Answer {
+    pub what: u8,
+    pub number: u8,
+    pub channel: u8,
+    pub key: u8,
+    pub generator: u8,
+    pub was: u8,
+}
+
+/// `MUNTINORRIS_NONE` and its like: what an answer is.
+pub const NONE: u8 = 0;
+pub const DONE: u8 = 1;
+pub const NOTE: u8 = 2;
+pub const NUMBER: u8 = 3;
+
+/// `struct muntinorris_generator_answer`.
+#[repr(C)]
+#[derive(Clone, Copy, Debug, PartialEq, Eq)]
+pub struct GeneratorAnswer {
+    pub number: u8,
+    pub state: u8,
+    pub channel: u8,
+    pub key: u8,
+}
+
+/// `struct muntinorris_mask_answer`.
+#[repr(C)]
+#[derive(Clone, Copy, Debug, PartialEq, Eq)]
+pub struct MaskAnswer {
+    pub number: u8,
+    pub masked: u8,
+}
+
+/// `struct muntinorris_share_answer`.
+#[repr(C)]
+#[derive(Clone, Copy, Debug, PartialEq, Eq)]
+pub struct ShareAnswer {
+    pub number: u8,
+    pub share: u8,
+}
+
+/// `struct muntinorris_parser`.
+#[repr(C)]
+#[derive(Clone, Copy, Debug)]
+pub struct Parser {
+    pub status: u8,
+    pub count: u8,
+    pub bytes: [u8; 37],
+}
+
+/// `struct muntinorris_entry`.
+#[repr(C)]
+#[derive(Clone, Copy, Debug, PartialEq, Eq)]
+pub struct Entry {
+    pub channel: u8,
+    pub value: u8,
+}
+
+/// `struct muntinorris_table`.
+#[repr(C)]
+#[derive(Clone, Copy, Debug)]
+pub struct Table {
+    pub count: u8,
+    pub entries: [Entry; 16],
+}
+
+/// `struct muntinorris_channel`: eleven bytes in the header's order.
+pub type Channel = [u8; 11];
+
+/// `struct muntinorris_ages`.
+#[repr(C)]
+#[derive(Clone, Copy, Debug)]
+pub struct Ages {
+    pub count: u8,
+    pub generator: [u8; 64],
+}
+
+/// `struct muntinorris_generators`.
+#[repr(C)]
+#[derive(Clone, Copy, Debug)]
+pub struct Generators {
+    pub state: [u8; 64],
+    pub channel: [u8; 64],
+    pub key: [u8; 64],
+    pub ages: Ages,
+}
+
+/// `struct muntinorris_instrument`.
+#[repr(C)]
+#[derive(Clone, Copy, Debug)]
+pub struct Instrument {
+    pub polyphony: u8,
+    pub id: u8,
+    pub table: Table,
+    pub channels: [Channel; 16],
+    pub generators: Generators,
+}
+
+/// "The device record, 507 bytes without padding."
+pub const RECORD_BYTES: usize = 507;
+
+/// `struct muntinorris_device`.
+#[repr(C)]
+#[derive(Clone, Copy, Debug)]
+pub struct Device {
+    pub parser: Parser,
+    pub instrument: Instrument,
+}
+
+const _: () =
+    assert!(std::mem::size_of::<Device>() == RECORD_BYTES && std::mem::align_of::<Device>() == 1);
+
+extern "C" {
+    fn muntinorris_start(device: *mut Device, polyphony: u8, id: u8) -> Answer;
+    fn muntinorris_byte(device: *mut Device, byte: u8) -> Answer;
+    fn muntinorris_report(device: *mut Device, generator: u8) -> Answer;
+    fn muntinorris_generator(device: *const Device, generator: u8) -> GeneratorAnswer;
+    fn muntinorris_mask(device: *const Device, channel: u8) -> MaskAnswer;
+    fn muntinorris_share(device: *const Device, channel: u8) -> ShareAnswer;
+}
+
+impl Device {
+    /// Memory with these bytes: no record yet, a start must make it one.
+    pub fn memory(bytes: [u8; RECORD_BYTES]) -> Device {
+        // SAFETY: the record is made of bytes alone, so that any bytes are one.
+        unsafe { std::mem::transmute(bytes) }
+    }
+
+    /// Makes this memory the record of a fresh device.
+    pub fn start(&mut self, polyphony: u8, id: u8) -> Answer {
+        // SAFETY: the pointer is to a whole record, and this borrow is the only one.
+        unsafe { muntinorris_start(self, polyphony, id) }
+    }
+
+    #[inline]
+    pub fn byte(&mut self, byte: u8) -> Answer {
+        // SAFETY: the pointer is to a whole record, and this borrow is the only one.
+        unsafe { muntinorris_byte(self, byte) }
+    }
+
+    #[inline]
+    pub fn report(&mut self, generator: u8) -> Answer {
+        // SAFETY: as for `start`.
+        unsafe { muntinorris_report(self, generator) }
+    }
+
+    pub fn generator(&self, generator: u8) -> GeneratorAnswer {
+        // SAFETY: the pointer is to a whole record; a query only reads it.
+        unsafe { muntinorris_generator(self, generator) }
+    }
+
+    pub fn mask(&self, channel: u8) -> MaskAnswer {
+        // SAFETY: as for `generator`.
+        unsafe { muntinorris_mask(self, channel) }
+    }
+
+    pub fn share(&self, channel: u8) -> ShareAnswer {
+        // SAFETY: as for `generator`.
+        unsafe { muntinorris_share(self, channel) }
+    }
+}
