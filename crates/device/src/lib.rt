@@ -1,5 +1,5 @@
-// The device (document 01): its start and its bytes, by value, for every value of the record. The report of an ended generator is not here yet: it
-// lands together with the proof of demand 3. Assumes nothing.
+// The device (document 01): its start and its bytes, by value, for every value of the record. Reports are in crate `reports`, and both kinds of event
+// together in crate `events`. Assumes nothing.
 ghost use mathlib.Core.Path.{_≡_};
 ghost use Rattle.splitter.specs.Split.{body};
 ghost use Rattle.device.specs.Device.{freshOutput, started, newTable, replied, mipTaken, exclusive, heard, byteTaken};
