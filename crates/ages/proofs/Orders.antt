@@ -1,21 +1,22 @@
 -- Laws about the order: what is in its record, and one generator more.
 -- Assumes nothing.
 use mathlib.Core.Path.{_≡_, refl, sym, ap, _∙_}
-use mathlib.Core.Bool.{Bool, true, false}
+use mathlib.Core.Bool.{Bool, true, false, not}
 use mathlib.Core.List.{List, [], _∷_, _++_}
 use Prim.Native.Nat.{ℕ, _+_, _≤_, _<_}
 use native.Mathlib.Omega.{arith}
-use borrow.Author.Tests.{ltb-true, ltb-false}
-use lib.Dec.{ltb}
-use lib.ListN.{length, getD, set, take, replicate, length-append, getD-replicate, List·getD-eq-default}
-use lib.Seq.{take-all, take-append-le, length-take-le, set-set, set-out}
+use borrow.Author.Tests.{ltb-true, ltb-false, eqb-true, eqb-false}
+use lib.Dec.{eqb, ltb}
+use lib.ListN.{length, getD, set, take, replicate, length-append}
+use lib.Seq.{take-all, take-append-le, length-take-le, set-set, set-out, getD-set-same, getD-set-other}
 use Rattle.loops.specs.Cases.{if_then_else_, bit, atMost}
 use Rattle.loops.specs.Passes.{filterBy, padded}
-use Rattle.loops.proofs.Padded.{padded-push, padded-blank, length-padded, padded-take, padded-full, at-most-le, take-at-most, length-at-most}
+use Rattle.loops.proofs.Padded.{padded-push, padded-blank, length-padded, padded-take, padded-full, at-most-le, take-at-most, length-at-most, blank}
+use Rattle.loops.proofs.Marks.{room}
 use Rattle.loops.proofs.Compact.{kept, kept-few, kept-count, kept-next}
 use Rattle.loops.proofs.Search.{filter-length, filter-no}
 use Rattle.ages.specs.declared.Ages.{Ages}
-use Rattle.ages.specs.Ages.{oldestFirst, agesOf, pushed}
+use Rattle.ages.specs.Ages.{oldestFirst, agesOf, unmarked, pushed, otherThan}
 
 -- the record of at most 64 numbers has them in their order
 pub order-of : (l : List ℕ) → length l ≤ 64 → oldestFirst (agesOf l) ≡ l
@@ -40,13 +41,13 @@ push-of l g = go (ltb (length l) 64) refl
         let b : take 64 (l ++ (g ∷ [])) ≡ take 64 l = take-append-le 64 l (g ∷ []) h in
         rw (b, a, padded-full 0 64 l (g ∷ []) h)
 
--- no generator has a mark
-abbrev pub no-marks : List ℕ
-no-marks = replicate 64 0
-
-pub no-mark : (h : ℕ) (b : Bool) → ltb h 64 ≡ b → getD no-marks h 0 ≡ 0
-no-mark h true t = getD-replicate 64 h 0 0 (ltb-true _ _ t)
-no-mark h false t = List·getD-eq-default no-marks 0 {n = h} (ltb-false _ _ t)
+-- a mark for generator g alone
+pub one-marked : (g : ℕ) → g < 256 → (h : ℕ) → unmarked (set (replicate 256 0) g 1) h ≡ otherThan g h
+one-marked g k h = go (eqb h g) refl
+  where
+    go : (b : Bool) → eqb h g ≡ b → unmarked (set (replicate 256 0) g 1) h ≡ not b
+    go true t = rw (eqb-true h g t, getD-set-same {A = ℕ} (replicate 256 0) g 1 0 (room g k))
+    go false t = rw (getD-set-other {A = ℕ} (replicate 256 0) g h 1 0 (eqb-false h g t), blank {A = ℕ} 0 256 h)
 
 -- the end of a loop that keeps those that pass: what was kept is the order of those
 pub kept-end : (p : ℕ → Bool) (a : Ages) (i m : ℕ) (out : List ℕ) → length (a .generator) ≡ 64 → i ≡ atMost 64 (a .count)

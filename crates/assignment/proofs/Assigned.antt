@@ -18,7 +18,8 @@ use Rattle.loops.proofs.Search.{filter-append, filter-filter, filter-same, filt
 use Rattle.loops.proofs.Occurs.{occurs, occurs-filter, occurs-snoc, length-total, total-hole}
 use Rattle.ages.specs.declared.Ages.{Ages}
 use Rattle.ages.specs.Ages.{oldestFirst, agesOf, newest, otherThan}
-use Rattle.ages.proofs.Orders.{order-of, no-mark}
+use Rattle.loops.proofs.Padded.{blank}
+use Rattle.ages.proofs.Orders.{order-of}
 use Rattle.generators.specs.declared.Generators.{Generators}
 use Rattle.generators.specs.Generators.{Generator, generator, at, isSounding, isHeld, isSustained, isOn, isBusyOn, assigned, silent}
 use Rattle.changes.specs.declared.Change.{Change}
@@ -233,7 +234,7 @@ module _ (l : Leaving) (s : Generators) (o : Ordered s) where
 
 pub silent-ordered : Ordered silent
 unfolding silent agesOf count
-silent-ordered = record { sized = record { states = refl; channels = refl; keys = refl }; once = λ g. rw (no-mark g (ltb g 64) refl) }
+silent-ordered = record { sized = record { states = refl; channels = refl; keys = refl }; once = λ g. rw (blank {A = ℕ} 0 64 g) }
 
 -- each sounding generator stands in the order once, and no other does
 pub ordered : (l : List Act) → Ordered (after l)
@@ -281,7 +282,7 @@ follows-silenced x s o l f =
 pub follows-silent : (l : List ℕ) → Follows silent l
 unfolding silent agesOf filterBy padded
 follows-silent [] = refl
-follows-silent (g ∷ l) = follows-silent l ∙ sym (rw (no-mark g (ltb g 64) refl))
+follows-silent (g ∷ l) = follows-silent l ∙ sym (rw (blank {A = ℕ} 0 64 g))
 
 -- The law: the record's order is that of the last assignments of all that still sound.
 pub by-assignment : (l : List Act) → ByAssignment l

@@ -32,9 +32,9 @@ abbrev pub sought : Bool → ℕ → Generator → Bool
 sought true c x = isBusyOn c x
 sought false c x = isReleasing x
 
--- 1 for a generator that is sought
-abbrev pub mark : Bool → ℕ → List ℕ → List ℕ → ℕ → ℕ
-mark busy c state channel g = bit (sought busy c (generator (getD state g 0) (getD channel g 0) 0))
+-- of generator g, by the numbers in the record
+abbrev pub soughtAt : Bool → ℕ → List ℕ → List ℕ → ℕ → Bool
+soughtAt busy c state channel g = sought busy c (generator (getD state g 0) (getD channel g 0) 0)
 
 unfoldable pub oldest : Want → Generators → Found
 oldest w s = found (firstOf (λ g. wanted w (at s g)) (oldestFirst (s .ages)))

@@ -2,14 +2,15 @@
 // Assumes nothing.
 ghost use mathlib.Core.Path.{_≡_};
 ghost use mathlib.Core.Bool.{not};
-ghost use Prim.Native.Nat.{_≤_, _<_};
+ghost use Prim.Native.Nat.{_≤_};
 ghost use lib.Dec.{eqb};
 ghost use lib.ListN.{getD};
-ghost use Rattle.loops.specs.Passes.{total, upTo, firstOf};
+ghost use Rattle.loops.specs.Cases.{bit};
+ghost use Rattle.loops.specs.Passes.{total, firstOf, marksOf};
 ghost use Rattle.ages.specs.Ages.{oldestFirst};
 ghost use Rattle.generators.specs.Generators.{generator, at};
 ghost use Rattle.choice.specs.declared.Want.the-variants.{Releasing};
-ghost use Rattle.choice.specs.Choice.{found, lowestIdle, sought, mark, oldest, busyCount};
+ghost use Rattle.choice.specs.Choice.{found, lowestIdle, sought, soughtAt, oldest, busyCount};
 use ages::Ages;
 use generators::Generators;
 
@@ -38,7 +39,7 @@ fn is_sought(busy: bool, c: u8, state: u8, channel: u8) -> bool
 }
 
 fn how_many(state: [u8; 64], channel: [u8; 64], busy: bool, c: u8) -> u8
-    ensures { λ r. ⌜ (r ≡ total (λ g. mark busy c state channel g) 64) × (r ≤ 64) ⌝ }
+    ensures { λ r. ⌜ (r ≡ total (λ g. bit (soughtAt busy c state channel g)) 64) × (r ≤ 64) ⌝ }
 {
     let mut n: u8 = 0;
     let mut i: usize = 0;
@@ -49,9 +50,9 @@ fn how_many(state: [u8; 64], channel: [u8; 64], busy: bool, c: u8) -> u8
     n
 }
 
-// A mark, 1, for each generator that is sought, by its number: for every value that a number in the order of age may have.
+// A mark for each generator that is sought.
 fn marks(state: [u8; 64], channel: [u8; 64], busy: bool, c: u8) -> [u8; 256]
-    ensures { λ r. ⌜ r ≡ upTo (λ g. mark busy c state channel g) 256 ⌝ }
+    ensures { λ r. ⌜ r ≡ marksOf (soughtAt busy c state channel) ⌝ }
 {
     let mut out = [0u8; 256];
     let mut i: usize = 0;
@@ -60,12 +61,6 @@ fn marks(state: [u8; 64], channel: [u8; 64], busy: bool, c: u8) -> [u8; 256]
         i += 1;
     }
     out
-}
-
-fn place(g: u8) -> usize
-    ensures { λ r. ⌜ (r ≡ g) × (r < 256) ⌝ }
-{
-    g as usize
 }
 
 // The oldest generator with a mark.
@@ -77,8 +72,7 @@ fn first_marked(order: Ages, marks: [u8; 256]) -> Found
     let mut i: usize = 0;
     while i < n {
         let g = numbers[i];
-        let at = place(g);
-        if marks[at] != 0 {
+        if loops::mark(marks, g) != 0 {
             return Found::At(g);
         }
         i += 1;

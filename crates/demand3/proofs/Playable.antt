@@ -6,9 +6,9 @@ use mathlib.Core.Bool.{Bool, true, false, not, _&&_, _||_}
 use Prim.Native.Nat.{ℕ, _≤_, _<_}
 use native.Mathlib.Omega.{arith}
 use borrow.Author.Tests.{eqb-true, eqb-false, eq-eqb, ne-eqb}
-use lib.Dec.{eqb, ltb}
+use lib.Dec.{eqb}
 use Rattle.loops.specs.Cases.{if_then_else_}
-use Rattle.ages.proofs.Orders.{no-mark}
+use Rattle.loops.proofs.Padded.{blank}
 use Rattle.generators.specs.declared.Generators.{Generators}
 use Rattle.generators.specs.Generators.{Generator, generator, at, isIdle, isBusy, assigned, silent}
 use Rattle.changes.specs.declared.Change.{Change}
@@ -105,8 +105,8 @@ playable-silent p h =
     record {
       few = h;
       ordered = silent-ordered;
-      states = λ g. rw (no-mark g (ltb g 64) refl) (omega arith);
-      above = λ g k. rw (no-mark g (ltb g 64) refl);
+      states = λ g. rw (blank {A = ℕ} 0 64 g) (omega arith);
+      above = λ g k. rw (blank {A = ℕ} 0 64 g);
     }
 
 pub playable-cleared : (r : Bool) (c k p : ℕ) (s : Generators) → Playable p s → Playable p (cleared r c k s)

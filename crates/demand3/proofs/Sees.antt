@@ -5,7 +5,7 @@ use mathlib.Core.Bool.{Bool, true, false, not, _&&_, _||_}
 use Prim.Native.Nat.{ℕ, _≤_, _<_}
 use native.Mathlib.Omega.{arith}
 use borrow.Author.Tests.{eqb-true}
-use lib.Dec.{eqb, ltb}
+use lib.Dec.{eqb}
 use Rattle.loops.specs.Cases.{if_then_else_}
 use Rattle.drums.specs.Drums.{excludes}
 use Rattle.generators.specs.declared.Generators.{Generators}
@@ -18,7 +18,7 @@ use Rattle.silence.specs.declared.Leaving.the-variants.{One, Channel, Group}
 use Rattle.silence.specs.Silence.{isAmong, leaves, goes, silenced}
 use Rattle.assignment.proofs.At.{Sized, restated, restated-at, silenced-at, assigned-at}
 use Rattle.assignment.proofs.Assigned.{Ordered, change-busy, changed-ordered}
-use Rattle.ages.proofs.Orders.{no-mark}
+use Rattle.loops.proofs.Padded.{blank}
 use Rattle.allocation.specs.Allocation.{cleared}
 use Rattle.demand3.specs.Demand3.{Slot, empty, note, isDown, isOnPedal, isOf, isOfKey, isEnded, freed, put, slotOf}
 
@@ -184,7 +184,7 @@ sees-assigned h c k n s z l e g = go (eqb g h) ∙ ap slotOf (sym (assigned-at h
 -- nothing is seen of a fresh record
 pub sees-silent : Sees (λ g. empty) silent
 unfolding silent
-sees-silent g = rw (no-mark g (ltb g 64) refl)
+sees-silent g = rw (blank {A = ℕ} 0 64 g)
 
 -- ---- steps 2 and 3 together
 

@@ -1,5 +1,6 @@
 pub mod Compact
 pub mod Fill
+pub mod Marks
 pub mod Occurs
 pub mod Padded
 pub mod Totals

@@ -4,7 +4,7 @@ use mathlib.Core.Path.{_≡_, refl, sym, ap, _∙_}
 use mathlib.Core.List.{List, [], _∷_, _++_, append-assoc, append-nil}
 use Prim.Native.Nat.{ℕ, zero, suc, _+_, _-_, _≤_, _<_}
 use native.Mathlib.Omega.{arith}
-use lib.ListN.{length, take, set, replicate, length-append, length-replicate, length-take, replicate-append-replicate}
+use lib.ListN.{length, take, set, getD, replicate, length-append, length-replicate, length-take, replicate-append-replicate}
 use borrow.Author.Tests.{ltb-true, ltb-false}
 use lib.Dec.{ltb}
 use lib.Seq.{take-append-add, take-append-le, take-at, set-at, length-take-le, take-all}
@@ -13,6 +13,12 @@ use Rattle.loops.specs.Cases.{if_then_else_, atMost}
 use Rattle.loops.specs.Passes.{padded}
 
 module _ {A : Type 0} (z : A) where
+  -- every element of a blank array is blank, past its end too
+  pub blank : (n i : ℕ) → getD (replicate n z) i z ≡ z
+  blank zero i = refl
+  blank (suc n) zero = refl
+  blank (suc n) (suc i) = blank n i
+
   take-replicate : (k n : ℕ) → k ≤ n → take k (replicate n z) ≡ replicate k z
   take-replicate k n h =
       let e : n ≡ k + (n - k) = omega arith in

@@ -31,6 +31,10 @@ unfoldable pub count : {A : Type 0} → (A → Bool) → List A → ℕ
 count p [] = 0
 count p (x ∷ l) = bit (p x) + count p l
 
+-- a mark, 1, for each number that passes and 0 for the others, among all that a byte may hold
+unfoldable pub marksOf : (ℕ → Bool) → List ℕ
+marksOf p = upTo (λ n. bit (p n)) 256
+
 -- a list in an array of n places, with z in those that it leaves
 unfoldable pub padded : {A : Type 0} → ℕ → A → List A → List A
 padded n z l = take n (l ++ replicate n z)

@@ -42,3 +42,10 @@ pub fn element(numbers: [u8; 64], i: u8) -> u8
     }
     0
 }
+
+// The mark of number i, in an array that has one for every number that a byte may hold.
+pub fn mark(marks: [u8; 256], i: u8) -> u8
+    ensures { λ r. ⌜ r ≡ getD marks i 0 ⌝ }
+{
+    marks[i as usize]
+}

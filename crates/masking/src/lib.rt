@@ -4,8 +4,8 @@ ghost use mathlib.Core.Path.{_≡_};
 ghost use mathlib.Core.Bool.{_&&_, not};
 ghost use lib.Dec.{eqb};
 ghost use lib.ListN.{getD};
-ghost use Rattle.loops.specs.Cases.{if_then_else_, bit};
-ghost use Rattle.loops.specs.Passes.{upTo};
+ghost use Rattle.loops.specs.Cases.{if_then_else_};
+ghost use Rattle.loops.specs.Passes.{upTo, marksOf};
 ghost use Rattle.generators.specs.Generators.{generator, isBusy};
 ghost use Rattle.masking.specs.Masking.{isNewlyMasked, masked};
 use generators::Generators;
@@ -18,11 +18,11 @@ fn is_newly_masked(p: u8, old: Table, new: Table, c: u8) -> bool
     shares::is_channel(c) & (!shares::masks(old, p, c) & shares::masks(new, p, c))
 }
 
-// A mark, 1, for each newly masked channel, by its number; what is above 16 is no channel and keeps 0.
-fn marks(p: u8, old: Table, new: Table) -> [u8; 64]
-    ensures { λ r. ⌜ r ≡ upTo (λ c. bit (isNewlyMasked p old new c)) 64 ⌝ }
+// A mark for each newly masked channel, by its number; what is above 16 is no channel and has none.
+fn marks(p: u8, old: Table, new: Table) -> [u8; 256]
+    ensures { λ r. ⌜ r ≡ marksOf (isNewlyMasked p old new) ⌝ }
 {
-    let mut out = [0u8; 64];
+    let mut out = [0u8; 256];
     let mut i: usize = 0;
     while i < 17 {
         out[i] = loops::one(is_newly_masked(p, old, new, i as u8));
@@ -32,13 +32,13 @@ fn marks(p: u8, old: Table, new: Table) -> [u8; 64]
 }
 
 // The states after the busy generators of marked channels were released.
-fn release(state: [u8; 64], channel: [u8; 64], marks: [u8; 64]) -> [u8; 64]
+fn release(state: [u8; 64], channel: [u8; 64], marks: [u8; 256]) -> [u8; 64]
     ensures { λ r. ⌜ r ≡ upTo (λ g. if isBusy (generator (getD state g 0) 0 0) && not (eqb (getD marks (getD channel g 0) 0) 0) then 3 else getD state g 0) 64 ⌝ }
 {
     let mut out = state;
     let mut i: usize = 0;
     while i < 64 {
-        let gone = generators::is_busy(state[i]) & (loops::element(marks, channel[i]) != 0);
+        let gone = generators::is_busy(state[i]) & (loops::mark(marks, channel[i]) != 0);
         out[i] = loops::if_else(gone, generators::RELEASING, state[i]);
         i += 1;
     }

@@ -1,45 +1,34 @@
--- Marks and what is left without the marked generators: a generator is marked if it leaves, and a number that is no generator never is.
+-- What is left without the marked generators: a generator is marked if it leaves, and a number that is no generator never is.
 -- Assumes nothing.
-use mathlib.Core.Path.{_≡_, refl, sym, ap, _∙_}
-use mathlib.Core.Bool.{Bool, true, false, not, _&&_}
+use mathlib.Core.Path.{_≡_, refl}
+use mathlib.Core.Bool.{Bool, true, false, not}
 use mathlib.Core.List.{List}
-use Prim.Native.Nat.{ℕ, _≤_, _<_}
+use Prim.Native.Nat.{ℕ, _≤_}
 use native.Mathlib.Omega.{arith}
-use borrow.Author.Tests.{ltb-true, ltb-false}
-use lib.Dec.{eqb, ltb}
+use lib.Dec.{eqb}
 use lib.ListN.{length, getD, List·getD-eq-default}
-use Rattle.loops.specs.Cases.{if_then_else_, bit}
-use Rattle.loops.specs.Passes.{upTo, filterBy}
-use Rattle.loops.proofs.Fill.{at-upTo, length-upTo, upTo-same}
+use Rattle.loops.specs.Cases.{if_then_else_}
+use Rattle.loops.specs.Passes.{upTo, filterBy, marksOf}
+use Rattle.loops.proofs.Fill.{upTo-same}
+use Rattle.loops.proofs.Marks.{no-mark}
 use Rattle.loops.proofs.Search.{filter-same}
 use Rattle.ages.specs.Ages.{oldestFirst, agesOf, unmarked, without}
 use Rattle.generators.specs.declared.Generators.{Generators}
 use Rattle.silence.specs.declared.Leaving.{Leaving}
-use Rattle.generators.specs.Generators.{Generator, at}
+use Rattle.generators.specs.Generators.{generator, at}
 use Rattle.silence.specs.Silence.{leaves, goes, silenced}
 
+-- beyond the generators nothing leaves
+pub none-leaves : (l : Leaving) (state channel keys : List ℕ) → length state ≡ 64 → (g : ℕ) → 64 ≤ g → leaves l g (generator (getD state g 0) (getD channel g 0) (getD keys g 0)) ≡ false
+unfolding leaves
+none-leaves l state channel keys h g k = rw (List·getD-eq-default state 0 {n = g} (omega arith))
+
 module _ (l : Leaving) (s : Generators) (h : length (s .state) ≡ 64) where
-  abbrev pub marks : List ℕ
-  marks = upTo (λ g. bit (goes l s g)) 64
-
-  zero-bit : (b : Bool) → eqb (bit b) 0 ≡ not b
-  zero-bit true = refl
-  zero-bit false = refl
-
-  -- beyond the generators nothing leaves
-  beyond : (g : ℕ) → 64 ≤ g → goes l s g ≡ false
-  unfolding leaves
-  beyond g k = rw (List·getD-eq-default (s .state) 0 {n = g} (omega arith))
+  abbrev marks : List ℕ
+  marks = marksOf (goes l s)
 
   marked : (g : ℕ) → unmarked marks g ≡ not (goes l s g)
-  marked g = go (ltb g 64) refl
-    where
-      go : (b : Bool) → ltb g 64 ≡ b → unmarked marks g ≡ not (goes l s g)
-      go true t = rw (at-upTo (λ (g : ℕ). bit (goes l s g)) 0 64 g (ltb-true _ _ t)) (zero-bit (goes l s g))
-      go false t =
-          let k : 64 ≤ g = ltb-false g 64 t in
-          let n = length-upTo (λ (g : ℕ). bit (goes l s g)) 64 in
-          rw (List·getD-eq-default marks 0 {n = g} (omega arith), beyond g k)
+  marked = no-mark (goes l s) 64 (none-leaves l (s .state) (s .channel) (s .key) h) (omega arith)
 
   left : (f : ℕ → ℕ) → upTo (λ g. if eqb (getD marks g 0) 0 then f g else 0) 64 ≡ upTo (λ g. if goes l s g then 0 else f g) 64
   left f = upTo-same _ _ 64 (λ g k. rw (marked g) (turn (goes l s g) (f g)))

@@ -3,8 +3,8 @@
 ghost use mathlib.Core.Path.{_≡_};
 ghost use lib.Dec.{eqb};
 ghost use lib.ListN.{getD};
-ghost use Rattle.loops.specs.Cases.{if_then_else_, bit};
-ghost use Rattle.loops.specs.Passes.{upTo};
+ghost use Rattle.loops.specs.Cases.{if_then_else_};
+ghost use Rattle.loops.specs.Passes.{upTo, marksOf};
 ghost use Rattle.generators.specs.Generators.{generator};
 ghost use Rattle.silence.specs.Silence.{leaves, silenced};
 use generators::Generators;
@@ -32,11 +32,11 @@ fn leaves(l: Leaving, g: u8, state: u8, channel: u8, key: u8) -> bool
     }
 }
 
-// A mark, 1, for each generator that becomes idle.
-fn marks(state: [u8; 64], channel: [u8; 64], keys: [u8; 64], l: Leaving) -> [u8; 64]
-    ensures { λ r. ⌜ r ≡ upTo (λ g. bit (leaves l g (generator (getD state g 0) (getD channel g 0) (getD keys g 0)))) 64 ⌝ }
+// A mark for each generator that becomes idle.
+fn marks(state: [u8; 64], channel: [u8; 64], keys: [u8; 64], l: Leaving) -> [u8; 256]
+    ensures { λ r. ⌜ r ≡ marksOf (λ g. leaves l g (generator (getD state g 0) (getD channel g 0) (getD keys g 0))) ⌝ }
 {
-    let mut out = [0u8; 64];
+    let mut out = [0u8; 256];
     let mut i: usize = 0;
     while i < 64 {
         out[i] = loops::one(leaves(l, i as u8, state[i], channel[i], keys[i]));
@@ -46,7 +46,7 @@ fn marks(state: [u8; 64], channel: [u8; 64], keys: [u8; 64], l: Leaving) -> [u8;
 }
 
 // The numbers of the generators without a mark, and 0 for the others.
-fn unmarked(numbers: [u8; 64], marks: [u8; 64]) -> [u8; 64]
+fn unmarked(numbers: [u8; 64], marks: [u8; 256]) -> [u8; 64]
     ensures { λ r. ⌜ r ≡ upTo (λ g. if eqb (getD marks g 0) 0 then getD numbers g 0 else 0) 64 ⌝ }
 {
     let mut out = numbers;

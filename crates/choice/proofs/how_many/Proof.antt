@@ -6,13 +6,13 @@ use native.Mathlib.Omega.{arith}
 use Rattle.loops.specs.Cases.{bit}
 use Rattle.loops.specs.Passes.{total}
 use Rattle.loops.proofs.Totals.{total-next}
-use Rattle.choice.specs.Choice.{mark}
+use Rattle.choice.specs.Choice.{soughtAt}
 use borrow.Author.Needs.{needs}
 use Rattle.choice.proofs.how_many.Statement.{statement}
 use Rattle.choice.proofs.how_many.Tie as tie
 
 abbrev Inv-loop : tie.InvT-loop
-Inv-loop busy c state channel n₀ i₀ n i = (i ≤ 64) × (n ≤ i) × (n ≡ total (mark busy c state channel) i)
+Inv-loop busy c state channel n₀ i₀ n i = (i ≤ 64) × (n ≤ i) × (n ≡ total (λ g. bit (soughtAt busy c state channel g)) i)
 
 abbrev μ-loop : tie.MeasureT-loop
 μ-loop busy c state channel n₀ i₀ n i = 64 - i
@@ -47,7 +47,7 @@ loop-again c =
     let l = c .before .before .before .loop in
     let a = c .before .before .before .before .args in
     let x = c .one .ensures .0 ∙ ap bit (c .before .is-sought .ensures) in
-    (omega arith, omega (arith, c .one .ensures .1), total-next (mark (a .busy) (a .c) (a .t1) (a .t2)) (l .i) (l .n) _ (l .inv .2) x)
+    (omega arith, omega (arith, c .one .ensures .1), total-next (λ (g : ℕ). bit (soughtAt (a .busy) (a .c) (a .t1) (a .t2) g)) (l .i) (l .n) _ (l .inv .2) x)
 
 returns : tie.Need-returns Inv-loop μ-loop
 returns c =

@@ -1,4 +1,4 @@
--- `choice::marks` meets its contract. Invariant: the first i marks are those of the rule, the others 0; and a number that is no generator's has no mark.
+-- `choice::marks` meets its contract. Invariant: the first i marks are those of the rule, the others 0. From 64 on no generator is sought.
 -- Assumes nothing.
 use Prim.Native.Nat.{ℕ, _≤_, _<_, _-_}
 use mathlib.Core.Path.{_≡_, refl, ap, _∙_}
@@ -8,17 +8,15 @@ use lib.ListN.{length, drop, replicate}
 use Rattle.loops.specs.Cases.{bit}
 use Rattle.loops.specs.Passes.{upTo}
 use Rattle.loops.proofs.Fill.{fill-next}
-use Rattle.choice.specs.Choice.{mark}
-use Rattle.choice.proofs.Sought.{mark-none, fill-rest}
+use Rattle.choice.specs.Choice.{soughtAt}
+use Rattle.loops.proofs.Marks.{room, marks-end}
+use Rattle.choice.proofs.Sought.{sought-none}
 use borrow.Author.Needs.{needs}
 use Rattle.choice.proofs.marks.Statement.{statement}
 use Rattle.choice.proofs.marks.Tie as tie
 
-room : (i : ℕ) → i < 64 → i < length {A = ℕ} (replicate 256 0)
-room i h = let k : 256 ≡ length {A = ℕ} (replicate 256 0) = refl in omega (arith, k)
-
 abbrev Inv-loop : tie.InvT-loop
-Inv-loop busy c state channel out₀ i₀ out i = (i ≤ 64) × (length state ≡ 64) × (out ≡ upTo (mark busy c state channel) i ++ drop i (replicate 256 0))
+Inv-loop busy c state channel out₀ i₀ out i = (i ≤ 64) × (length state ≡ 64) × (out ≡ upTo (λ g. bit (soughtAt busy c state channel g)) i ++ drop i (replicate 256 0))
 
 abbrev μ-loop : tie.MeasureT-loop
 μ-loop busy c state channel out₀ i₀ out i = 64 - i
@@ -53,14 +51,14 @@ loop-again c =
     let l = c .before .before .before .loop in
     let a = c .before .before .before .before .args in
     let x = c .one .ensures .0 ∙ ap bit (c .before .is-sought .ensures) in
-    (omega arith, l .inv .1, fill-next (mark (a .busy) (a .c) (a .t1) (a .t2)) 0 (replicate 256 0) (l .out) (l .i) _ (room (l .i) (omega arith)) (l .inv .2) x)
+    (omega arith, l .inv .1, fill-next (λ (g : ℕ). bit (soughtAt (a .busy) (a .c) (a .t1) (a .t2) g)) 0 (replicate 256 0) (l .out) (l .i) _ (room (l .i) (omega arith)) (l .inv .2) x)
 
 returns : tie.Need-returns Inv-loop μ-loop
 returns c =
     let l = c .before .loop in
     let a = c .before .before .args in
     let e : l .i ≡ 64 = omega arith in
-    fill-rest (mark (a .busy) (a .c) (a .t1) (a .t2)) (mark-none (a .busy) (a .c) (a .t1) (a .t2) (l .inv .1)) (l .out) (rw e at (l .inv .2))
+    marks-end (soughtAt (a .busy) (a .c) (a .t1) (a .t2)) 64 (sought-none (a .busy) (a .c) (a .t1) (a .t2) 0 (l .inv .1)) 192 refl (l .out) (rw e at (l .inv .2))
 
 pub marks-spec : {M : Type 1} → statement M
 marks-spec =

@@ -36,11 +36,11 @@ array-read-is-busy c = search needs
 is-busy-requires : tie.Need-is-busy-requires Inv-loop μ-loop
 is-busy-requires c κs = search needs
 
-array-read-element : tie.Need-array-read-element Inv-loop μ-loop
-array-read-element c = search needs
+array-read-mark : tie.Need-array-read-mark Inv-loop μ-loop
+array-read-mark c = search needs
 
-element-requires : tie.Need-element-requires Inv-loop μ-loop
-element-requires c κs = search needs
+mark-requires : tie.Need-mark-requires Inv-loop μ-loop
+mark-requires c κs = search needs
 
 array-read-if-else : tie.Need-array-read-if-else Inv-loop μ-loop
 array-read-if-else c = search needs
@@ -61,7 +61,7 @@ loop-again : tie.Need-loop-again Inv-loop μ-loop
 loop-again c =
     let l = c .before .before .before .before .loop in
     let a = c .before .before .before .before .before .args in
-    let x = rw (c .before .element .ensures, c .before .before .is-busy .ensures) at (c .if-else .ensures) in
+    let x = rw (c .before .mark .ensures, c .before .before .is-busy .ensures) at (c .if-else .ensures) in
     (omega arith, l .inv .1, fill-next (rule (a .t1) (a .t2) (a .marks)) 0 (a .t1) (l .out) (l .i) _ (omega arith) (l .inv .2) x)
 
 returns : tie.Need-returns Inv-loop μ-loop
@@ -76,8 +76,8 @@ release-spec =
     loop-holds
     array-read-is-busy
     is-busy-requires
-    array-read-element
-    element-requires
+    array-read-mark
+    mark-requires
     array-read-if-else
     if-else-requires
     array-write-out

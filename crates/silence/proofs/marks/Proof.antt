@@ -1,34 +1,36 @@
--- `silence::marks` meets its contract. Invariant: the first i marks are those of the rule, the others 0.
+-- `silence::marks` meets its contract. Invariant: the first i marks are those of the rule, the others 0. From 64 on no generator leaves.
 -- Assumes nothing.
 use Prim.Native.Nat.{ℕ, _≤_, _<_, _-_}
 use mathlib.Core.Path.{_≡_, refl, sym, ap, _∙_}
 use native.Mathlib.Omega.{arith}
 use mathlib.Core.Bool.{Bool}
 use mathlib.Core.List.{List, _++_}
-use lib.ListN.{length, drop, getD}
+use lib.ListN.{length, drop, getD, replicate}
 use Rattle.loops.specs.Cases.{bit}
 use Rattle.loops.specs.Passes.{upTo}
-use Rattle.loops.proofs.Fill.{fill-next, fill-end}
+use Rattle.loops.proofs.Fill.{fill-next}
+use Rattle.loops.proofs.Marks.{room, marks-end}
 use Rattle.silence.specs.declared.Leaving.{Leaving}
 use Rattle.generators.specs.Generators.{generator}
 use Rattle.silence.specs.Silence.{leaves}
+use Rattle.silence.proofs.Marked.{none-leaves}
 use borrow.Author.Needs.{needs}
 use Rattle.silence.proofs.marks.Statement.{statement}
 use Rattle.silence.proofs.marks.Tie as tie
 
--- the mark of generator g
-abbrev rule : List ℕ → List ℕ → List ℕ → Leaving → ℕ → ℕ
-rule state channel keys l g = bit (leaves l g (generator (getD state g 0) (getD channel g 0) (getD keys g 0)))
+-- whether generator g leaves
+abbrev rule : List ℕ → List ℕ → List ℕ → Leaving → ℕ → Bool
+rule state channel keys l g = leaves l g (generator (getD state g 0) (getD channel g 0) (getD keys g 0))
 
 abbrev Inv-loop : tie.InvT-loop
-Inv-loop l state channel keys out₀ i₀ out i = (i ≤ 64) × (length out₀ ≡ 64) × (out ≡ upTo (rule state channel keys l) i ++ drop i out₀)
+Inv-loop l state channel keys out₀ i₀ out i = (i ≤ 64) × (length state ≡ 64) × (out ≡ upTo (λ g. bit (rule state channel keys l g)) i ++ drop i (replicate 256 0))
 
 abbrev μ-loop : tie.MeasureT-loop
 μ-loop l state channel keys out₀ i₀ out i = 64 - i
 
 loop-holds : tie.Need-loop-holds Inv-loop μ-loop
 unfolding upTo
-loop-holds c = (omega arith, refl, refl)
+loop-holds c = (omega arith, c .good .0 .1 .0 .1, refl)
 
 cast-leaves : tie.Need-cast-leaves Inv-loop μ-loop
 cast-leaves c = search needs
@@ -62,10 +64,14 @@ loop-again c =
     let l = c .before .before .before .loop in
     let a = c .before .before .before .before .args in
     let x = c .one .ensures .0 ∙ ap bit (c .before .leaves .ensures) in
-    (omega arith, l .inv .1, fill-next (rule (a .t1) (a .t2) (a .t3) (a .l)) 0 _ (l .out) (l .i) _ (omega arith) (l .inv .2) x)
+    (omega arith, l .inv .1, fill-next (λ (g : ℕ). bit (rule (a .t1) (a .t2) (a .t3) (a .l) g)) 0 (replicate 256 0) (l .out) (l .i) _ (room (l .i) (omega arith)) (l .inv .2) x)
 
 returns : tie.Need-returns Inv-loop μ-loop
-returns c = let l = c .before .loop in fill-end _ _ _ _ 64 (omega arith) (omega arith) (l .inv .2)
+returns c =
+    let l = c .before .loop in
+    let a = c .before .before .args in
+    let e : l .i ≡ 64 = omega arith in
+    marks-end (rule (a .t1) (a .t2) (a .t3) (a .l)) 64 (none-leaves (a .l) (a .t1) (a .t2) (a .t3) (l .inv .1)) 192 refl (l .out) (rw e at (l .inv .2))
 
 pub marks-spec : {M : Type 1} → statement M
 marks-spec =

@@ -1,11 +1,14 @@
--- `ages::Ages::newest` meets its contract: the generator is left out, and then pushed behind the others.
+-- `ages::Ages::newest` meets its contract: the generator is left out by a mark for it alone, and then pushed behind the others.
 -- Assumes nothing.
+use Prim.Native.Nat.{_<_}
+use native.Mathlib.Omega.{arith}
 use borrow.Author.Needs.{needs}
 use borrow.Author.Tests.{lt-ltb, le-ltb}
 use mathlib.Core.Path.{_∙_}
 use Rattle.loops.specs.Passes.{filterBy}
-use Rattle.ages.specs.Ages.{oldestFirst, otherThan, newest}
-use Rattle.ages.proofs.Orders.{push-of}
+use Rattle.loops.proofs.Search.{filter-same}
+use Rattle.ages.specs.Ages.{oldestFirst, otherThan, without, newest}
+use Rattle.ages.proofs.Orders.{push-of, one-marked}
 use Rattle.ages.proofs.Ages.newest.Statement.{statement}
 use Rattle.ages.proofs.Ages.newest.Tie as tie
 
@@ -13,18 +16,23 @@ returns : tie.Need-returns
 unfolding newest
 returns c = simp (le-ltb _ _ (c .if1 .taken))
 
-but-requires : tie.Need-but-requires
-but-requires c κs = search needs
+array-write-mark : tie.Need-array-write-mark
+array-write-mark c = search needs
+
+without-requires : tie.Need-without-requires
+without-requires c κs = search needs
 
 push-requires : tie.Need-push-requires
 push-requires c κs = search needs
 
 returns-2 : tie.Need-returns-2
-unfolding newest
+unfolding newest without
 returns-2 c =
     let a = c .before .before .before .args in
-    simp (lt-ltb _ _ (c .before .before .if1 .left)) (c .push .ensures ∙ rw (c .before .but .ensures) (push-of (filterBy (otherThan (a .g)) (oldestFirst (a .self))) (a .g)))
+    let h : a .g < 256 = omega (arith, c .before .before .if1 .left) in
+    let others = filter-same _ (otherThan (a .g)) (oldestFirst (a .self)) (one-marked (a .g) h) in
+    simp (lt-ltb _ _ (c .before .before .if1 .left)) (c .push .ensures ∙ rw (c .before .without .ensures, others) (push-of (filterBy (otherThan (a .g)) (oldestFirst (a .self))) (a .g)))
 
 pub newest-spec : {M : Type 1} → statement M
 newest-spec =
-    tie.close (tie.spec returns but-requires push-requires returns-2)
+    tie.close (tie.spec returns array-write-mark without-requires push-requires returns-2)
