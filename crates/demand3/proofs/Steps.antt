@@ -38,9 +38,9 @@ use Rattle.masking.specs.Masking.{isNewlyMasked, masked}
 use Rattle.playing.specs.declared.Answer.{Answer}
 use Rattle.playing.specs.declared.Answer.the-variants.{Done, Number}
 use Rattle.playing.specs.declared.Reply.{Reply}
-use Rattle.playing.specs.Playing.{liftsPedal, silencesAll, endsAll, playNoteOff, playControl, played}
+use Rattle.playing.specs.Playing.{liftsPedal, silencesAll, endsAll, playNoteOff, playControl, replied, played}
 use Rattle.playing.specs.Playing as of-playing
-use Rattle.reports.specs.Reports.{replied, reported}
+use Rattle.reports.specs.Reports.{reported}
 use Rattle.device.specs.Device.{newTable}
 use Rattle.demand3.specs.Demand3.{Slot, empty, note, Book, withNotes, withHolds, withTable, freshBook, shareOf, isRhythm, pedalDown, isDown, isOnPedal, isOf, isOfKey, freed, allFreed, put, slotOf, keepNoteOff, holdAfter, notesAfter, keepControl, keepMessage, isOfMasked, keepTable, keepReport}
 use Rattle.demand3.proofs.Playable.{playable-changed, playable-silenced, playable-restated, playable-silent}

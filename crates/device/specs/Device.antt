@@ -23,15 +23,16 @@ use Rattle.masking.specs.Masking.{masked}
 use Rattle.playing.specs.declared.Answer.{Answer}
 use Rattle.playing.specs.declared.Answer.the-variants as answer
 use Rattle.playing.specs.declared.Reply.{Reply}
-use Rattle.playing.specs.Playing.{played}
+use Rattle.playing.specs.Playing.{replied, played}
 use Rattle.device.specs.declared.Device.{Device}
 use Rattle.device.specs.declared.Output.{Output}
 
-abbrev pub replied : Answer → Instrument → Reply
-replied a i = record { answer = a; instrument = i }
+-- the record of a start with P and the own ID
+abbrev pub freshDevice : ℕ → ℕ → Device
+freshDevice p id = record { parser = quiet; instrument = fresh p id }
 
 abbrev pub freshOutput : Answer → ℕ → ℕ → Output
-freshOutput a p id = record { answer = a; device = record { parser = quiet; instrument = fresh p id } }
+freshOutput a p id = record { answer = a; device = freshDevice p id }
 
 -- numbers 1 and 2: "P not 1 to 64", "ID above 126"; both leave the "fresh record, P 1, ID 0"
 unfoldable pub started : ℕ → ℕ → Output

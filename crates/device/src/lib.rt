@@ -2,7 +2,7 @@
 // together in crate `events`. Assumes nothing.
 ghost use mathlib.Core.Path.{_≡_};
 ghost use Rattle.splitter.specs.Split.{body};
-ghost use Rattle.device.specs.Device.{freshOutput, started, newTable, replied, mipTaken, exclusive, heard, byteTaken};
+ghost use Rattle.device.specs.Device.{freshDevice, started, newTable, mipTaken, exclusive, heard, byteTaken};
 use instrument::Instrument;
 use playing::Answer;
 use playing::Reply;
@@ -25,18 +25,22 @@ pub struct Output {
     pub device: Device,
 }
 
-fn fresh_output(answer: Answer, polyphony: u8, id: u8) -> Output
-    ensures { λ r. ⌜ r ≡ freshOutput answer polyphony id ⌝ }
-{
-    let parser = Parser::new();
-    let i = Instrument::fresh(polyphony, id);
-    let d = Device {
-        parser: parser,
-        instrument: i,
-    };
-    Output {
-        answer: answer,
-        device: d,
+impl Device {
+    // P is 1 to this, the own ID 0 to the other.
+    pub const MOST_GENERATORS: u8 = 64;
+
+    pub const HIGHEST_ID: u8 = 126;
+
+    // The record of a start. Private, so that a device has its P and ID by `start` alone.
+    fn fresh(polyphony: u8, id: u8) -> Self
+        ensures { λ r. ⌜ r ≡ freshDevice polyphony id ⌝ }
+    {
+        let parser = Parser::new();
+        let i = Instrument::fresh(polyphony, id);
+        Device {
+            parser: parser,
+            instrument: i,
+        }
     }
 }
 
@@ -44,13 +48,22 @@ fn fresh_output(answer: Answer, polyphony: u8, id: u8) -> Output
 pub fn start(polyphony: u8, id: u8) -> Output
     ensures { λ r. ⌜ r ≡ started polyphony id ⌝ }
 {
-    if (polyphony < 1) | (64 < polyphony) {
-        return fresh_output(Answer::Number(1), 1, 0);
+    if (polyphony < 1) | (Device::MOST_GENERATORS < polyphony) {
+        return Output {
+            answer: Answer::Number(1),
+            device: Device::fresh(1, 0),
+        };
     }
-    if 126 < id {
-        return fresh_output(Answer::Number(2), 1, 0);
+    if Device::HIGHEST_ID < id {
+        return Output {
+            answer: Answer::Number(2),
+            device: Device::fresh(1, 0),
+        };
     }
-    fresh_output(Answer::Done, polyphony, id)
+    Output {
+        answer: Answer::Done,
+        device: Device::fresh(polyphony, id),
+    }
 }
 
 // An accepted MIP message: its table replaces the old one, and newly masked channels give way.
@@ -66,15 +79,6 @@ fn new_table(i: Instrument, t: Table) -> Instrument
     next
 }
 
-fn reply(answer: Answer, i: Instrument) -> Reply
-    ensures { λ r. ⌜ r ≡ replied answer i ⌝ }
-{
-    Reply {
-        answer: answer,
-        instrument: i,
-    }
-}
-
 fn mip(i: Instrument, p: Parser) -> Reply
     ensures { λ r. ⌜ r ≡ mipTaken i (body p) ⌝ }
 {
@@ -82,8 +86,8 @@ fn mip(i: Instrument, p: Parser) -> Reply
     let t = j.table;
     let v = j.verdict;
     match v {
-        Verdict::Accepted => reply(Answer::Done, new_table(i, t)),
-        Verdict::Refused(n) => reply(Answer::Number(n), i),
+        Verdict::Accepted => Reply::new(Answer::Done, new_table(i, t)),
+        Verdict::Refused(n) => Reply::new(Answer::Number(n), i),
     }
 }
 
@@ -94,8 +98,8 @@ fn take_sysex(i: Instrument, p: Parser) -> Reply
     let k = sysex::kind_of(p, i.id);
     match k {
         Kind::Mip => mip(i, p),
-        Kind::SystemOn => reply(Answer::Done, Instrument::fresh(i.polyphony, i.id)),
-        Kind::Other => reply(Answer::Nothing, i),
+        Kind::SystemOn => Reply::new(Answer::Done, Instrument::fresh(i.polyphony, i.id)),
+        Kind::Other => Reply::new(Answer::Nothing, i),
     }
 }
 
@@ -104,9 +108,9 @@ pub fn take(i: Instrument, p: Parser, c: Completed) -> Reply
     ensures { λ r. ⌜ r ≡ heard i p c ⌝ }
 {
     match c {
-        Completed::Nothing => reply(Answer::Nothing, i),
-        Completed::Stray => reply(Answer::Number(3), i),
-        Completed::Cut => reply(Answer::Number(4), i),
+        Completed::Nothing => Reply::new(Answer::Nothing, i),
+        Completed::Stray => Reply::new(Answer::Number(3), i),
+        Completed::Cut => Reply::new(Answer::Number(4), i),
         Completed::Message(s, a, b) => playing::play(i, message::read(s, a, b)),
         Completed::SysEx => take_sysex(i, p),
     }

@@ -67,17 +67,17 @@ playControl i c n v =
     withGenerators (withChannel i c (controlled (channelOf i c) n v))
     (notesAfter (pedalDown i c && not (isRhythm i c)) c n v (i .generators))
 
-abbrev pub done : Instrument → Reply
-done i = record { answer = Done; instrument = i }
+abbrev pub replied : Answer → Instrument → Reply
+replied a i = record { answer = a; instrument = i }
 
 -- "done (any other complete channel message ..)"; pressure changes nothing
 unfoldable pub played : Instrument → Message → Reply
 played i (message.NoteOn c k) = playNoteOn i c k
-played i (message.NoteOff c k) = done (playNoteOff i c k)
-played i (message.Control c n v) = done (playControl i c n v)
-played i (message.Program c n) = done (withChannel i c (withProgram (channelOf i c) n))
-played i (message.Bend c msb lsb) = done (withChannel i c (withBend (channelOf i c) msb lsb))
-played i message.Other = done i
+played i (message.NoteOff c k) = replied Done (playNoteOff i c k)
+played i (message.Control c n v) = replied Done (playControl i c n v)
+played i (message.Program c n) = replied Done (withChannel i c (withProgram (channelOf i c) n))
+played i (message.Bend c msb lsb) = replied Done (withChannel i c (withBend (channelOf i c) msb lsb))
+played i message.Other = replied Done i
 
 -- the number of document 01 for an answer, where it has one
 abbrev pub numberOf : Answer → Option ℕ

@@ -1,7 +1,7 @@
 // What a complete channel message does to the sound module, and what it answers (document 01, "Note-on" and "Other messages"), by value, for every value.
 // Masking stops note-ons and nothing else. Assumes nothing.
 ghost use mathlib.Core.Path.{_≡_};
-ghost use Rattle.playing.specs.Playing.{notesAfter, soundedOf, playNoteOn, playNoteOff, playControl, replyOf, done, played};
+ghost use Rattle.playing.specs.Playing.{notesAfter, soundedOf, playNoteOn, playNoteOff, playControl, replyOf, replied, played};
 use allocation::Taken;
 use allocation::Was;
 use changes::Change;
@@ -24,6 +24,7 @@ pub enum Answer {
     Number(u8),
 }
 
+// An answer, and the record without its parser after it.
 pub struct Reply {
     pub answer: Answer,
     pub instrument: Instrument,
@@ -33,6 +34,17 @@ pub struct Reply {
 pub struct Sounded {
     pub answer: Answer,
     pub generators: Generators,
+}
+
+impl Reply {
+    pub fn new(answer: Answer, i: Instrument) -> Self
+        ensures { λ r. ⌜ r ≡ replied answer i ⌝ }
+    {
+        Reply {
+            answer: answer,
+            instrument: i,
+        }
+    }
 }
 
 // What a controller does to notes: the pedal, 120, 121 and 123.
@@ -101,19 +113,7 @@ fn note_on(i: Instrument, channel: u8, key: u8) -> Reply
     let s = sound(i, channel, key);
     let answer = s.answer;
     let after = s.generators;
-    Reply {
-        answer: answer,
-        instrument: i.with_generators(after),
-    }
-}
-
-fn done(i: Instrument) -> Reply
-    ensures { λ r. ⌜ r ≡ done i ⌝ }
-{
-    Reply {
-        answer: Answer::Done,
-        instrument: i,
-    }
+    Reply::new(answer, i.with_generators(after))
 }
 
 // A complete channel message.
@@ -122,10 +122,16 @@ pub fn play(i: Instrument, m: Message) -> Reply
 {
     match m {
         Message::NoteOn(c, k) => note_on(i, c, k),
-        Message::NoteOff(c, k) => done(note_off(i, c, k)),
-        Message::Control(c, n, v) => done(control(i, c, n, v)),
-        Message::Program(c, n) => done(i.with_channel(c, i.channel_of(c).program(n))),
-        Message::Bend(c, msb, lsb) => done(i.with_channel(c, i.channel_of(c).bend(msb, lsb))),
-        Message::Other => done(i),
+        Message::NoteOff(c, k) => Reply::new(Answer::Done, note_off(i, c, k)),
+        Message::Control(c, n, v) => Reply::new(Answer::Done, control(i, c, n, v)),
+        Message::Program(c, n) => Reply::new(
+            Answer::Done,
+            i.with_channel(c, i.channel_of(c).program(n)),
+        ),
+        Message::Bend(c, msb, lsb) => Reply::new(
+            Answer::Done,
+            i.with_channel(c, i.channel_of(c).bend(msb, lsb)),
+        ),
+        Message::Other => Reply::new(Answer::Done, i),
     }
 }

@@ -10,9 +10,7 @@ use Rattle.instrument.specs.Instrument.{withGenerators}
 use Rattle.playing.specs.declared.Answer.{Answer}
 use Rattle.playing.specs.declared.Answer.the-variants.{Done, Number}
 use Rattle.playing.specs.declared.Reply.{Reply}
-
-abbrev pub replied : Answer → Instrument → Reply
-replied a i = record { answer = a; instrument = i }
+use Rattle.playing.specs.Playing.{replied}
 
 -- number 12: "generator P or above"; number 13: "idle generator"; both change nothing; "12 before 13"
 unfoldable pub reported : Instrument → ℕ → Reply

@@ -1,33 +1,24 @@
 // The end of a generator's sound, as the tone generator reports it (document 01, "Other messages"), by value, for every value. Assumes nothing.
 ghost use mathlib.Core.Path.{_≡_};
-ghost use Rattle.reports.specs.Reports.{replied, reported};
+ghost use Rattle.reports.specs.Reports.{reported};
 use instrument::Instrument;
 use playing::Answer;
 use playing::Reply;
 use silence::Leaving;
-
-fn reply(answer: Answer, i: Instrument) -> Reply
-    ensures { λ r. ⌜ r ≡ replied answer i ⌝ }
-{
-    Reply {
-        answer: answer,
-        instrument: i,
-    }
-}
 
 // Generator g has ended.
 pub fn ended(i: Instrument, g: u8) -> Reply
     ensures { λ r. ⌜ r ≡ reported i g ⌝ }
 {
     if i.polyphony <= g {
-        return reply(Answer::Number(12), i);
+        return Reply::new(Answer::Number(12), i);
     }
     let s = i.generators;
     let state = s.state;
     if loops::element(state, g) == 0 {
-        return reply(Answer::Number(13), i);
+        return Reply::new(Answer::Number(13), i);
     }
-    reply(
+    Reply::new(
         Answer::Done,
         i.with_generators(silence::fall_silent(s, Leaving::One(g))),
     )

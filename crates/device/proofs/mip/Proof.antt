@@ -15,26 +15,26 @@ enum-told c = search needs
 new-table-requires : tie.Need-new-table-requires
 new-table-requires c κs = search needs
 
-reply-requires : tie.Need-reply-requires
-reply-requires c κs = search needs
+new-requires : tie.Need-new-requires
+new-requires c κs = search needs
 
 enum-known-v : tie.Need-enum-known-v
 enum-known-v c = search needs
 
-reply-requires-2 : tie.Need-reply-requires-2
-reply-requires-2 c κs = search needs
+new-requires-2 : tie.Need-new-requires-2
+new-requires-2 c κs = search needs
 
 returns : tie.Need-returns
 unfolding mipTaken
 returns c =
     let b = c .before .before .before .before .before in
-    simp (c .reply .ensures, c .before .new-table .ensures, sym (b .judge .ensures), c .before .before .enum-told .given .1)
+    simp (c .new .ensures, c .before .new-table .ensures, sym (b .judge .ensures), c .before .before .enum-told .given .1)
 
 returns-2 : tie.Need-returns-2
 unfolding mipTaken
 returns-2 c =
     let b = c .before .before .before .before .before in
-    simp (c .reply2 .ensures, sym (b .judge .ensures), c .before .before .v .given .1)
+    simp (c .new2 .ensures, sym (b .judge .ensures), c .before .before .v .given .1)
 
 pub mip-spec : {M : Type 1} → statement M
 mip-spec =
@@ -43,8 +43,8 @@ mip-spec =
     judge-requires
     enum-told
     new-table-requires
-    reply-requires
+    new-requires
     enum-known-v
-    reply-requires-2
+    new-requires-2
     returns
     returns-2)

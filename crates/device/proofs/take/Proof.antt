@@ -8,20 +8,20 @@ use Rattle.device.proofs.take.Tie as tie
 enum-told : tie.Need-enum-told
 enum-told c = search needs
 
-reply-requires : tie.Need-reply-requires
-reply-requires c κs = search needs
+new-requires : tie.Need-new-requires
+new-requires c κs = search needs
 
 enum-told-2 : tie.Need-enum-told-2
 enum-told-2 c = search needs
 
-reply-requires-2 : tie.Need-reply-requires-2
-reply-requires-2 c κs = search needs
+new-requires-2 : tie.Need-new-requires-2
+new-requires-2 c κs = search needs
 
 enum-told-3 : tie.Need-enum-told-3
 enum-told-3 c = search needs
 
-reply-requires-3 : tie.Need-reply-requires-3
-reply-requires-3 c κs = search needs
+new-requires-3 : tie.Need-new-requires-3
+new-requires-3 c κs = search needs
 
 enum-known-c : tie.Need-enum-known-c
 enum-known-c c = search needs
@@ -40,15 +40,15 @@ take-sysex-requires c κs = search needs
 
 returns : tie.Need-returns
 unfolding heard
-returns c = simp (c .before .enum-told .given .1, c .reply .ensures)
+returns c = simp (c .before .enum-told .given .1, c .new .ensures)
 
 returns-2 : tie.Need-returns-2
 unfolding heard
-returns-2 c = simp (c .before .enum-told2 .given .1, c .reply2 .ensures)
+returns-2 c = simp (c .before .enum-told2 .given .1, c .new2 .ensures)
 
 returns-3 : tie.Need-returns-3
 unfolding heard
-returns-3 c = simp (c .before .enum-told3 .given .1, c .reply3 .ensures)
+returns-3 c = simp (c .before .enum-told3 .given .1, c .new3 .ensures)
 
 returns-4 : tie.Need-returns-4
 unfolding heard
@@ -63,11 +63,11 @@ take-spec =
     tie.close
     (tie.spec
     enum-told
-    reply-requires
+    new-requires
     enum-told-2
-    reply-requires-2
+    new-requires-2
     enum-told-3
-    reply-requires-3
+    new-requires-3
     enum-known-c
     read-requires
     play-requires

@@ -21,14 +21,14 @@ enum-told-2 c = search needs
 fresh-requires : tie.Need-fresh-requires
 fresh-requires c κs = search needs
 
-reply-requires : tie.Need-reply-requires
-reply-requires c κs = search needs
+new-requires : tie.Need-new-requires
+new-requires c κs = search needs
 
 enum-told-3 : tie.Need-enum-told-3
 enum-told-3 c = search needs
 
-reply-requires-2 : tie.Need-reply-requires-2
-reply-requires-2 c κs = search needs
+new-requires-2 : tie.Need-new-requires-2
+new-requires-2 c κs = search needs
 
 returns : tie.Need-returns
 unfolding exclusive
@@ -36,11 +36,11 @@ returns c = simp (sym (c .before .before .before .kind-of .ensures) ∙ c .befor
 
 returns-2 : tie.Need-returns-2
 unfolding exclusive
-returns-2 c = simp (sym (c .before .before .before .before .kind-of .ensures) ∙ c .before .before .enum-told2 .given .1, c .reply .ensures, c .before .fresh .ensures)
+returns-2 c = simp (sym (c .before .before .before .before .kind-of .ensures) ∙ c .before .before .enum-told2 .given .1, c .new .ensures, c .before .fresh .ensures)
 
 returns-3 : tie.Need-returns-3
 unfolding exclusive
-returns-3 c = simp (sym (c .before .before .before .kind-of .ensures) ∙ c .before .enum-told3 .given .1, c .reply2 .ensures)
+returns-3 c = simp (sym (c .before .before .before .kind-of .ensures) ∙ c .before .enum-told3 .given .1, c .new2 .ensures)
 
 pub take-sysex-spec : {M : Type 1} → statement M
 take-sysex-spec =
@@ -51,9 +51,9 @@ take-sysex-spec =
     mip-requires
     enum-told-2
     fresh-requires
-    reply-requires
+    new-requires
     enum-told-3
-    reply-requires-2
+    new-requires-2
     returns
     returns-2
     returns-3)

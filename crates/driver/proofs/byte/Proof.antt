@@ -50,6 +50,7 @@ use Rattle.splitter.specs.Split as splitting
 use Rattle.instrument.specs.declared.Instrument.{Instrument}
 use Rattle.playing.specs.declared.Answer.{Answer}
 use Rattle.device.specs.declared.Device.{Device}
+use Rattle.playing.specs.Playing.{replied}
 use Rattle.device.specs.Device as definition
 use Rattle.events.specs.Events.{taken}
 use Rattle.events.specs.declared.Event.the-variants.{Byte}
@@ -100,7 +101,7 @@ stayed = (gave-ref (0 ∷ []) tt (plain (λ _. D.the-row)), (stay-none (λ _. u8
 abbrev Taken : Device → ℕ → Answer → Device → Type 0
 Taken h n a d = (a ≡ taken h (Byte n) .answer) × (d ≡ taken h (Byte n) .device)
 
-heard-quietly : (i : Instrument) (p : Parser) (k : Completed) → isQuiet k ≡ true → definition.heard i p k ≡ definition.replied (quietAnswer k) i
+heard-quietly : (i : Instrument) (p : Parser) (k : Completed) → isQuiet k ≡ true → definition.heard i p k ≡ replied (quietAnswer k) i
 unfolding definition.heard
 heard-quietly i p Nothing q = refl
 heard-quietly i p Stray q = refl

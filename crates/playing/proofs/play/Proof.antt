@@ -17,8 +17,8 @@ enum-known-m-2 c = search needs
 note-off-requires : tie.Need-note-off-requires
 note-off-requires c κs = search needs
 
-done-requires : tie.Need-done-requires
-done-requires c κs = search needs
+new-requires : tie.Need-new-requires
+new-requires c κs = search needs
 
 enum-known-m-3 : tie.Need-enum-known-m-3
 enum-known-m-3 c = search needs
@@ -26,8 +26,8 @@ enum-known-m-3 c = search needs
 control-requires : tie.Need-control-requires
 control-requires c κs = search needs
 
-done-requires-2 : tie.Need-done-requires-2
-done-requires-2 c κs = search needs
+new-requires-2 : tie.Need-new-requires-2
+new-requires-2 c κs = search needs
 
 enum-known-m-4 : tie.Need-enum-known-m-4
 enum-known-m-4 c = search needs
@@ -41,8 +41,8 @@ program-requires c κs = search needs
 with-channel-requires : tie.Need-with-channel-requires
 with-channel-requires c κs = search needs
 
-done-requires-3 : tie.Need-done-requires-3
-done-requires-3 c κs = search needs
+new-requires-3 : tie.Need-new-requires-3
+new-requires-3 c κs = search needs
 
 enum-known-m-5 : tie.Need-enum-known-m-5
 enum-known-m-5 c = search needs
@@ -56,14 +56,14 @@ bend-requires c κs = search needs
 with-channel-requires-2 : tie.Need-with-channel-requires-2
 with-channel-requires-2 c κs = search needs
 
-done-requires-4 : tie.Need-done-requires-4
-done-requires-4 c κs = search needs
+new-requires-4 : tie.Need-new-requires-4
+new-requires-4 c κs = search needs
 
 enum-told : tie.Need-enum-told
 enum-told c = search needs
 
-done-requires-5 : tie.Need-done-requires-5
-done-requires-5 c κs = search needs
+new-requires-5 : tie.Need-new-requires-5
+new-requires-5 c κs = search needs
 
 returns : tie.Need-returns
 unfolding played
@@ -71,23 +71,23 @@ returns c = simp (c .before .before .m .given .1, c .note-on .ensures)
 
 returns-2 : tie.Need-returns-2
 unfolding played
-returns-2 c = simp (c .before .before .before .m2 .given .1, c .done .ensures, c .before .note-off .ensures)
+returns-2 c = simp (c .before .before .before .m2 .given .1, c .new .ensures, c .before .note-off .ensures)
 
 returns-3 : tie.Need-returns-3
 unfolding played
-returns-3 c = simp (c .before .before .before .m3 .given .1, c .done2 .ensures, c .before .control .ensures)
+returns-3 c = simp (c .before .before .before .m3 .given .1, c .new2 .ensures, c .before .control .ensures)
 
 returns-4 : tie.Need-returns-4
 unfolding played
-returns-4 c = simp (c .before .before .before .before .before .m4 .given .1, c .done3 .ensures, c .before .with-channel .ensures, c .before .before .program .ensures, c .before .before .before .channel-of .ensures)
+returns-4 c = simp (c .before .before .before .before .before .m4 .given .1, c .new3 .ensures, c .before .with-channel .ensures, c .before .before .program .ensures, c .before .before .before .channel-of .ensures)
 
 returns-5 : tie.Need-returns-5
 unfolding played
-returns-5 c = simp (c .before .before .before .before .before .m5 .given .1, c .done4 .ensures, c .before .with-channel2 .ensures, c .before .before .bend .ensures, c .before .before .before .channel-of2 .ensures)
+returns-5 c = simp (c .before .before .before .before .before .m5 .given .1, c .new4 .ensures, c .before .with-channel2 .ensures, c .before .before .bend .ensures, c .before .before .before .channel-of2 .ensures)
 
 returns-6 : tie.Need-returns-6
 unfolding played
-returns-6 c = simp (c .before .enum-told .given .1, c .done5 .ensures)
+returns-6 c = simp (c .before .enum-told .given .1, c .new5 .ensures)
 
 pub play-spec : {M : Type 1} → statement M
 play-spec =
@@ -97,22 +97,22 @@ play-spec =
     note-on-requires
     enum-known-m-2
     note-off-requires
-    done-requires
+    new-requires
     enum-known-m-3
     control-requires
-    done-requires-2
+    new-requires-2
     enum-known-m-4
     channel-of-requires
     program-requires
     with-channel-requires
-    done-requires-3
+    new-requires-3
     enum-known-m-5
     channel-of-requires-2
     bend-requires
     with-channel-requires-2
-    done-requires-4
+    new-requires-4
     enum-told
-    done-requires-5
+    new-requires-5
     returns
     returns-2
     returns-3
