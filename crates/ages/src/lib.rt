@@ -25,7 +25,8 @@ impl Ages {
             let at = m as usize;
             // Put behind those that stay even if it does not: the next one that stays replaces it.
             kept[at] = g;
-            m = m + loops::one(loops::mark(marks, g) == 0);
+            let mark = loops::place(g);
+            m = m + loops::one(marks[mark] == 0);
             i += 1;
         }
         let end = m as usize;

@@ -72,7 +72,8 @@ fn first_marked(order: Ages, marks: [u8; 256]) -> Found
     let mut i: usize = 0;
     while i < n {
         let g = numbers[i];
-        if loops::mark(marks, g) != 0 {
+        let mark = loops::place(g);
+        if marks[mark] != 0 {
             return Found::At(g);
         }
         i += 1;

@@ -1,7 +1,7 @@
 // Ways of going over an array, as definitions (specs/) with one law for each (proofs/): what every loop of this repository is proved by;
 // and the small choices that loop bodies make without a branch. Assumes nothing.
 ghost use mathlib.Core.Path.{_≡_};
-ghost use Prim.Native.Nat.{_≤_, _-_};
+ghost use Prim.Native.Nat.{_≤_, _<_, _-_};
 ghost use lib.ListN.{getD};
 ghost use Rattle.loops.specs.Cases.{if_then_else_, bit, atMost};
 
@@ -43,9 +43,9 @@ pub fn element(numbers: [u8; 64], i: u8) -> u8
     0
 }
 
-// The mark of number i, in an array that has one for every number that a byte may hold.
-pub fn mark(marks: [u8; 256], i: u8) -> u8
-    ensures { λ r. ⌜ r ≡ getD marks i 0 ⌝ }
+// A number as a place in an array that has one for every number that a byte may hold.
+pub fn place(n: u8) -> usize
+    ensures { λ r. ⌜ (r ≡ n) × (r < 256) ⌝ }
 {
-    marks[i as usize]
+    n as usize
 }

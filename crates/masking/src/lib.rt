@@ -38,7 +38,8 @@ fn release(state: [u8; 64], channel: [u8; 64], marks: [u8; 256]) -> [u8; 64]
     let mut out = state;
     let mut i: usize = 0;
     while i < 64 {
-        let gone = generators::is_busy(state[i]) & (loops::mark(marks, channel[i]) != 0);
+        let mark = loops::place(channel[i]);
+        let gone = generators::is_busy(state[i]) & (marks[mark] != 0);
         out[i] = loops::if_else(gone, generators::RELEASING, state[i]);
         i += 1;
     }

@@ -40,17 +40,20 @@ loop-holds c =
 array-read-g : tie.Need-array-read-g Inv-loop μ-loop
 array-read-g c = search needs
 
-mark-requires : tie.Need-mark-requires Inv-loop μ-loop
-mark-requires c κs = search needs
+place-requires : tie.Need-place-requires Inv-loop μ-loop
+place-requires c κs = search needs
+
+array-read-if1 : tie.Need-array-read-if1 Inv-loop μ-loop
+array-read-if1 c = c .place .ensures .1
 
 returns : tie.Need-returns Inv-loop μ-loop
 returns c =
     let b = c .before .before .before in
     let a = b .before .before .before .args in
     let m = b .before .at-most in
-    let t = rw (c .before .mark .ensures) at (ap not (ne-eqb _ _ (c .if1 .taken))) in
+    let t = rw (c .before .place .ensures .0) at (ap not (ne-eqb _ _ (c .if1 .taken))) in
     rw (← (take-at-most 64 (a .order .count) (a .order .generator) (b .loop .inv .2)), ← (m .ensures .0))
-    (ap found (part-yes (has-mark (a .marks)) 0 (a .order .generator) (m .result) (omega arith) (b .loop .i) _ (omega arith) (b .loop .inv .3) t))
+    (ap found (part-yes (has-mark (a .t2)) 0 (a .order .generator) (m .result) (omega arith) (b .loop .i) _ (omega arith) (b .loop .inv .3) t))
 
 add-i : tie.Need-add-i Inv-loop μ-loop
 add-i c = search needs
@@ -63,8 +66,8 @@ loop-again c =
     let b = c .before .before .before in
     let a = b .before .before .before .args in
     let m = b .before .at-most in
-    let t = rw (c .before .mark .ensures) at (ap not (eq-eqb _ _ (c .if1 .left))) in
-    (omega arith, b .loop .inv .1, b .loop .inv .2, part-no (has-mark (a .marks)) 0 (a .order .generator) (m .result) (omega arith) (b .loop .i) _ (omega arith) (b .loop .inv .3) t)
+    let t = rw (c .before .place .ensures .0) at (ap not (eq-eqb _ _ (c .if1 .left))) in
+    (omega arith, b .loop .inv .1, b .loop .inv .2, part-no (has-mark (a .t2)) 0 (a .order .generator) (m .result) (omega arith) (b .loop .i) _ (omega arith) (b .loop .inv .3) t)
 
 returns-2 : tie.Need-returns-2 Inv-loop μ-loop
 returns-2 c =
@@ -72,7 +75,7 @@ returns-2 c =
     let a = b .before .before .before .args in
     let m = b .before .at-most in
     rw (← (take-at-most 64 (a .order .count) (a .order .generator) (b .loop .inv .2)), ← (m .ensures .0))
-    (ap found (part-end (has-mark (a .marks)) 0 (a .order .generator) (m .result) (omega arith) (b .loop .i) _ (omega arith) (b .loop .inv .3)))
+    (ap found (part-end (has-mark (a .t2)) 0 (a .order .generator) (m .result) (omega arith) (b .loop .i) _ (omega arith) (b .loop .inv .3)))
 
 pub first-marked-spec : {M : Type 1} → statement M
 first-marked-spec =
@@ -84,7 +87,8 @@ first-marked-spec =
     cast-n
     loop-holds
     array-read-g
-    mark-requires
+    place-requires
+    array-read-if1
     returns
     add-i
     loop-less

@@ -21,14 +21,20 @@ rule state channel marks g =
     if isBusy (generator (getD state g 0) 0 0) && not (eqb (getD marks (getD channel g 0) 0) 0) then 3 else getD state g 0
 
 abbrev Inv-loop : tie.InvT-loop
-Inv-loop marks state channel out₀ i₀ out i = (i ≤ 64) × (length out₀ ≡ 64) × (out ≡ upTo (rule state channel marks) i ++ drop i out₀)
+Inv-loop state channel marks out₀ i₀ out i = (i ≤ 64) × (length out₀ ≡ 64) × (out ≡ upTo (rule state channel marks) i ++ drop i out₀)
 
 abbrev μ-loop : tie.MeasureT-loop
-μ-loop marks state channel out₀ i₀ out i = 64 - i
+μ-loop state channel marks out₀ i₀ out i = 64 - i
 
 loop-holds : tie.Need-loop-holds Inv-loop μ-loop
 unfolding upTo
 loop-holds c = (omega arith, c .good .0 .1 .0 .1, refl)
+
+array-read-place : tie.Need-array-read-place Inv-loop μ-loop
+array-read-place c = search needs
+
+place-requires : tie.Need-place-requires Inv-loop μ-loop
+place-requires c κs = search needs
 
 array-read-is-busy : tie.Need-array-read-is-busy Inv-loop μ-loop
 array-read-is-busy c = search needs
@@ -36,11 +42,8 @@ array-read-is-busy c = search needs
 is-busy-requires : tie.Need-is-busy-requires Inv-loop μ-loop
 is-busy-requires c κs = search needs
 
-array-read-mark : tie.Need-array-read-mark Inv-loop μ-loop
-array-read-mark c = search needs
-
-mark-requires : tie.Need-mark-requires Inv-loop μ-loop
-mark-requires c κs = search needs
+array-read-gone : tie.Need-array-read-gone Inv-loop μ-loop
+array-read-gone c = c .before .place .ensures .1
 
 array-read-if-else : tie.Need-array-read-if-else Inv-loop μ-loop
 array-read-if-else c = search needs
@@ -61,8 +64,8 @@ loop-again : tie.Need-loop-again Inv-loop μ-loop
 loop-again c =
     let l = c .before .before .before .before .loop in
     let a = c .before .before .before .before .before .args in
-    let x = rw (c .before .mark .ensures, c .before .before .is-busy .ensures) at (c .if-else .ensures) in
-    (omega arith, l .inv .1, fill-next (rule (a .t1) (a .t2) (a .marks)) 0 (a .t1) (l .out) (l .i) _ (omega arith) (l .inv .2) x)
+    let x = rw (c .before .before .place .ensures .0, c .before .is-busy .ensures) at (c .if-else .ensures) in
+    (omega arith, l .inv .1, fill-next (rule (a .t1) (a .t2) (a .t3)) 0 (a .t1) (l .out) (l .i) _ (omega arith) (l .inv .2) x)
 
 returns : tie.Need-returns Inv-loop μ-loop
 returns c = let l = c .before .loop in fill-end _ _ _ _ 64 (omega arith) (omega arith) (l .inv .2)
@@ -74,10 +77,11 @@ release-spec =
     Inv-loop
     μ-loop
     loop-holds
+    array-read-place
+    place-requires
     array-read-is-busy
     is-busy-requires
-    array-read-mark
-    mark-requires
+    array-read-gone
     array-read-if-else
     if-else-requires
     array-write-out

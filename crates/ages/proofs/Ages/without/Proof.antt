@@ -4,7 +4,6 @@
 use Prim.Native.Nat.{ℕ, _≤_, _<_, _-_}
 use mathlib.Core.Path.{_≡_, refl, sym, ap, _∙_}
 use native.Mathlib.Omega.{arith}
-use lib.Dec.{eqb}
 use lib.ListN.{length, set, getD, length-set}
 use lib.Seq.{set-out}
 use borrow.Author.Needs.{needs}
@@ -51,8 +50,11 @@ cast-at c = search needs
 array-write-kept : tie.Need-array-write-kept Inv-loop μ-loop
 array-write-kept c = search needs
 
-mark-requires : tie.Need-mark-requires Inv-loop μ-loop
-mark-requires c κs = search needs
+place-requires : tie.Need-place-requires Inv-loop μ-loop
+place-requires c κs = search needs
+
+array-read-one : tie.Need-array-read-one Inv-loop μ-loop
+array-read-one c = c .place .ensures .1
 
 one-requires : tie.Need-one-requires Inv-loop μ-loop
 one-requires c κs = search needs
@@ -72,13 +74,13 @@ loop-again c =
     let l = b .loop in
     let a = b .before .before .before .args in
     let order = a .self .generator in
-    let p = unmarked (a .marks) in
+    let p = unmarked (a .t2) in
     let h : l .i < length order = omega arith in
     let k : l .i < 64 = omega arith in
     let q = kept-count p 0 64 order (l .i) (l .m) (padded 64 0 (kept p 0 64 order (l .i))) (p (getD order (l .i) 0)) h k refl (l .inv .4) refl in
     let r = loose-next p order (l .i) (l .m) (l .kept) h k (l .inv .4) (l .inv .6) in
     let s = length-set (l .kept) (l .m) (getD order (l .i) 0) in
-    let e = c .one .ensures .0 ∙ ap (λ (n : ℕ). bit (eqb n 0)) (c .before .mark .ensures) in
+    let e = c .one .ensures .0 ∙ ap (λ (n : ℕ). bit (unmarked (a .t2) n)) (c .before .place .ensures .0) in
     (omega arith, l .inv .1, l .inv .2, omega (arith, c .one .ensures .1), rw e q, s ∙ l .inv .5, rw e r)
 
 cast-end : tie.Need-cast-end Inv-loop μ-loop
@@ -95,7 +97,7 @@ returns c =
     let a = b .before .before .before .args in
     let n = b .before .at-most in
     let e : l .i ≡ n .result = omega arith in
-    kept-end (unmarked (a .marks)) (a .self) (l .i) (l .m) (set (l .kept) (l .m) 0) (l .inv .2) (e ∙ n .ensures .0) (l .inv .4) (l .inv .6)
+    kept-end (unmarked (a .t2)) (a .self) (l .i) (l .m) (set (l .kept) (l .m) 0) (l .inv .2) (e ∙ n .ensures .0) (l .inv .4) (l .inv .6)
 
 returns-2 : tie.Need-returns-2 Inv-loop μ-loop
 unfolding without
@@ -106,7 +108,7 @@ returns-2 c =
     let n = b .before .at-most in
     let e : l .i ≡ n .result = omega arith in
     let o = sym (set-out (l .kept) (l .m) 0 (omega (arith, c .if1 .left))) ∙ l .inv .6 in
-    kept-end (unmarked (a .marks)) (a .self) (l .i) (l .m) (l .kept) (l .inv .2) (e ∙ n .ensures .0) (l .inv .4) o
+    kept-end (unmarked (a .t2)) (a .self) (l .i) (l .m) (l .kept) (l .inv .2) (e ∙ n .ensures .0) (l .inv .4) o
 
 pub without-spec : {M : Type 1} → statement M
 without-spec =
@@ -120,7 +122,8 @@ without-spec =
     array-read-g
     cast-at
     array-write-kept
-    mark-requires
+    place-requires
+    array-read-one
     one-requires
     add-m
     add-i
