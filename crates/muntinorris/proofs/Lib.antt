@@ -1,0 +1,3 @@
+-- The walks that several functions share.
+pub mod Copied
+pub mod PassedOn
