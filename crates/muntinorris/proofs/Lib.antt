@@ -1,3 +1,4 @@
 -- The walks that several functions share.
 pub mod Copied
+pub mod Numbering
 pub mod PassedOn

@@ -53,24 +53,10 @@ use Rattle.muntinorris.proofs.answer_numbers as numbers
 use Rattle.muntinorris.proofs.answer_numbers.Symbol as numbers-def
 use Rattle.muntinorris.proofs.answer_numbers.Symbol.{name as #numbers}
 use Rattle.muntinorris.proofs.answer_numbers.Met as numbers-thm
+use Rattle.muntinorris.proofs.Numbering.{Numbering, numbers-of, to-numbers, goes-numbers}
 
 abbrev Arg : Type 0
 Arg = RefT Device × (ℕ × Unit {0})
-
--- ---- the numbers of an answer
-
-module _ {M : Type 1} (𝓤 : URA M) (H : Heap 𝓤) (A : Atoms 𝓤) (at-mem : Memory → SProp 𝓤) (run : Routine → Fun 𝓤) where
-  abbrev Numbering : Contract 𝓤
-  Numbering = tripleOf 𝓤 H A numbers.signature (numbers.spec 𝓤 H A at-mem run)
-
-  numbers-of : (a : Answer) (r : AnswerNumbers) → ent 𝓤 (ensured 𝓤 H A numbers.ended (numbers.clauses 𝓤 H A at-mem run) tt (a, tt) tt r) (fact 𝓤 (r ≡ numbersOf a))
-  numbers-of a r = exE 𝓤 _ (λ ws. snd∗ 𝓤 (sem 𝓤 H A (lasts numbers.ended tt (a, tt) ws)) (fact 𝓤 (r ≡ numbersOf a)))
-
-  abbrev to-numbers : Answer → Val → Numbering .Ghost
-  to-numbers a v = ((tt, tt, tt, (a, tt), (v ∷ [], tt)), tt)
-
-  goes-numbers : Given 𝓤 H A → (a : Answer) (v : Val) → ent 𝓤 (sem 𝓤 H A (N.the-row .own a (v ∷ []))) (Numbering .pre (to-numbers a v))
-  goes-numbers W a v = qed W (‵ (N.the-row .own a (v ∷ [])) ∷ []) ∵ nothing ! $ move ! (1 ∷ 0 ∷ []) $ join ! $ nothing ! $ join ! $ frame ! $ done !
 
 -- ---- the code, and the two contracts: of the function called, and of the one that passes on
 

@@ -63,6 +63,7 @@ use Rattle.muntinorris.proofs.answer_numbers as numbers
 use Rattle.muntinorris.proofs.answer_numbers.Symbol as numbers-def
 use Rattle.muntinorris.proofs.answer_numbers.Symbol.{name as #numbers}
 use Rattle.muntinorris.proofs.answer_numbers.Met as numbers-thm
+use Rattle.muntinorris.proofs.Numbering.{Numbering, numbers-of, to-numbers, goes-numbers}
 use Rattle.muntinorris.proofs.muntinorris_start.Key.{name as #f}
 use Rattle.muntinorris.proofs.muntinorris_start as f
 use Rattle.muntinorris.proofs.muntinorris_start.Statement as stated
@@ -91,12 +92,6 @@ module _ {M : Type 1} (𝓤 : URA M) (H : Heap 𝓤) (A : Atoms 𝓤) (at-mem : 
   start-of : (p id : ℕ) (s : Output) → ent 𝓤 (ensured 𝓤 H A start.ended (start.clauses 𝓤 H A at-mem run) tt (p, (id, tt)) tt s) (fact 𝓤 (s ≡ started p id))
   start-of p id s = exE 𝓤 _ (λ ws. snd∗ 𝓤 (sem 𝓤 H A (lasts start.ended tt (p, (id, tt)) ws)) (fact 𝓤 (s ≡ started p id)))
 
-  abbrev Numbering : Contract 𝓤
-  Numbering = tripleOf 𝓤 H A numbers.signature (numbers.spec 𝓤 H A at-mem run)
-
-  numbers-of : (a : Answer) (r : AnswerNumbers) → ent 𝓤 (ensured 𝓤 H A numbers.ended (numbers.clauses 𝓤 H A at-mem run) tt (a, tt) tt r) (fact 𝓤 (r ≡ numbersOf a))
-  numbers-of a r = exE 𝓤 _ (λ ws. snd∗ 𝓤 (sem 𝓤 H A (lasts numbers.ended tt (a, tt) ws)) (fact 𝓤 (r ≡ numbersOf a)))
-
 module _ {M : Type 1} (𝓤 : URA M) (H : Heap 𝓤) (A : Atoms 𝓤) (W : Given 𝓤 H A) (at-mem : Memory → SProp 𝓤) (run : Routine → Fun 𝓤) (κ : Lft) (q : Share) (b o : ℕ) (γ : GName) (h : Device) (p id : ℕ) (p-fits : p < 2 ^ 8) (id-fits : id < 2 ^ 8) where
   abbrev x : Arg
   x = (record { ptr = (b, o); name = γ; now = h }, (p, (id, tt)))
@@ -122,12 +117,6 @@ module _ {M : Type 1} (𝓤 : URA M) (H : Heap 𝓤) (A : Atoms 𝓤) (W : Given
   goes-start : ent 𝓤 (sem 𝓤 H A ftrue) (Start 𝓤 H A at-mem run .pre to-start)
   goes-start = qed W (‵ ftrue ∷ []) ∵ owned ! u8 (Is u8) (uint-makes 𝓤 H A W w8) id _ (refl, id-fits) $ fjoin ! $ owned ! u8 (Is u8) (uint-makes 𝓤 H A W w8) p _ (refl, p-fits) $ fjoin ! $ nothing ! $ join ! $ frame ! $ done !
 
-  abbrev to-numbers : Answer → Val → Numbering 𝓤 H A at-mem run .Ghost
-  to-numbers a v = ((tt, tt, tt, (a, tt), (v ∷ [], tt)), tt)
-
-  goes-numbers : (a : Answer) (v : Val) → ent 𝓤 (sem 𝓤 H A (N.the-row .own a (v ∷ []))) (Numbering 𝓤 H A at-mem run .pre (to-numbers a v))
-  goes-numbers a v = qed W (‵ (N.the-row .own a (v ∷ [])) ∷ []) ∵ nothing ! $ move ! (1 ∷ 0 ∷ []) $ join ! $ nothing ! $ join ! $ frame ! $ done !
-
   module _ (C : Calls 𝓤 H) (Λ : Loops 𝓤 H) (fm : FmC 𝓤 H (W .laws) C) (known-start : Triple 𝓤 (C #start) (Start 𝓤 H A at-mem run)) (known-numbers : Triple 𝓤 (C #numbers) (Numbering 𝓤 H A at-mem run)) where
     walk : ent 𝓤 (onEntry 𝓤 H A f.signature (κ, tt) (q, tt) x at) (WpFn 𝓤 H C Λ code.function (vptr b o ∷ vint w8 p ∷ vint w8 id ∷ []) Post)
     walk =
@@ -151,8 +140,8 @@ module _ {M : Type 1} (𝓤 : URA M) (H : Heap 𝓤) (A : Atoms 𝓤) (W : Given
         owned ! D.the-row (Is D.the-row) (LL.makes D.the-type D′.the-plain 𝓤 H A) (s .device) _ (LL.owed S.the-type S′.the-laws s _ is .1 .0) $ move ! (1 ∷ 0 ∷ []) $ closes ! tt D.the-row (s .device) (dev-val (s .device) ∷ []) b o $
         -- [obs; the borrow; the token; _4; …; _3; …; _2; …; _1; …; _0; …; true]
         owned ! N.the-row (Is N.the-row) (EL.makes N.the-type N′.the-plain 𝓤 H A) (s .answer) (ans-val (s .answer) ∷ []) (LL.owed S.the-type S′.the-laws s _ is .0) $
-        use1 W (raw (Numbering 𝓤 H A at-mem run .pre (to-numbers (s .answer) (ans-val (s .answer))))) (goes-numbers (s .answer) (ans-val (s .answer))) $
-        calls-at ! fm (Numbering 𝓤 H A at-mem run) known-numbers (to-numbers (s .answer) (ans-val (s .answer))) (and-then ! (load ! (from ! (fld ! refl (stop !))) (look-in ! 4 (sub ! 0 refl (whole !)))) (no-more !)) (λ w.
+        use1 W (raw (Numbering 𝓤 H A at-mem run .pre (to-numbers 𝓤 H A at-mem run (s .answer) (ans-val (s .answer))))) (goes-numbers 𝓤 H A at-mem run W (s .answer) (ans-val (s .answer))) $
+        calls-at ! fm (Numbering 𝓤 H A at-mem run) known-numbers (to-numbers 𝓤 H A at-mem run (s .answer) (ans-val (s .answer))) (and-then ! (load ! (from ! (fld ! refl (stop !))) (look-in ! 4 (sub ! 0 refl (whole !)))) (no-more !)) (λ w.
         use1 W (later (some (λ (r : AnswerNumbers). (‵ ftrue ⊛ ‵ (O.the-row .own r (w ∷ []))) ⊛ raw (ensured 𝓤 H A numbers.ended (numbers.clauses 𝓤 H A at-mem run) tt (s .answer, tt) tt r)))) (id⊢ 𝓤 _) $ await ! tt $ pick ! (λ r.
         split ! $ move ! (1 ∷ []) $ use1 W (raw (fact 𝓤 (r ≡ numbersOf (s .answer)))) (numbers-of 𝓤 H A at-mem run (s .answer) r) $ heard ! (r ≡ numbersOf (s .answer)) (λ e′. split ! $ drop ! $
         peeks ! O.the-row (Is O.the-row) (shows 𝓤 H A O.the-row) r (w ∷ []) (λ isr. drop ! $
