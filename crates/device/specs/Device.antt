@@ -2,6 +2,7 @@
 use Prim.Native.Nat.{ℕ}
 use mathlib.Core.Bool.{Bool, _||_}
 use mathlib.Core.List.{List}
+use mathlib.Core.Option.{Option, some, none}
 use lib.Dec.{ltb}
 use lib.ListN.{drop}
 use Rattle.loops.specs.Cases.{if_then_else_}
@@ -9,6 +10,7 @@ use Rattle.splitter.specs.declared.Parser.{Parser}
 use Rattle.splitter.specs.declared.Completed.{Completed}
 use Rattle.splitter.specs.declared.Completed.the-variants.{Nothing, Stray, Cut, Message, SysEx}
 use Rattle.splitter.specs.Split.{quiet, body, split}
+use Rattle.splitter.specs.Split as splitting
 use Rattle.message.specs.Message.{decode}
 use Rattle.sysex.specs.declared.Kind.{Kind}
 use Rattle.sysex.specs.declared.Kind.the-variants.{Mip, SystemOn, Other}
@@ -16,6 +18,7 @@ use Rattle.sysex.specs.declared.Verdict.the-variants.{Accepted, Refused}
 use Rattle.sysex.specs.declared.Verdict.{Verdict}
 use Rattle.sysex.specs.declared.Judged.{Judged}
 use Rattle.sysex.specs.SysEx.{kindOf, judged}
+use Rattle.sysex.specs.SysEx as judging
 use Rattle.table.specs.declared.Table.{Table}
 use Rattle.instrument.specs.declared.Instrument.{Instrument}
 use Rattle.instrument.specs.Instrument.{fresh, withTable, withGenerators}
@@ -45,9 +48,14 @@ started p id =
 unfoldable pub newTable : Instrument → Table → Instrument
 newTable i t = withTable (withGenerators i (masked (i .polyphony) (i .table) t (i .generators))) t
 
+-- a number of the paper as an answer, and none where there is none
+abbrev pub answerOf : Option ℕ → Answer
+answerOf none = answer.Nothing
+answerOf (some n) = answer.Number n
+
 abbrev pub judgedReply : Instrument → Verdict → Table → Reply
 judgedReply i Accepted t = replied answer.Done (newTable i t)
-judgedReply i (Refused n) t = replied (answer.Number n) i
+judgedReply i (Refused n) t = replied (answerOf (judging.numberOf (Refused n))) i
 
 -- a MIP message for us by its data bytes, of which the first four are its head
 unfoldable pub mipTaken : Instrument → List ℕ → Reply
@@ -64,9 +72,9 @@ exclusive i l = kindReply i l (kindOf (i .id) l)
 
 -- what a byte completed; p is the parser that it found
 unfoldable pub heard : Instrument → Parser → Completed → Reply
-heard i p Nothing = replied answer.Nothing i
-heard i p Stray = replied (answer.Number 3) i
-heard i p Cut = replied (answer.Number 4) i
+heard i p Nothing = replied (answerOf (splitting.numberOf Nothing)) i
+heard i p Stray = replied (answerOf (splitting.numberOf Stray)) i
+heard i p Cut = replied (answerOf (splitting.numberOf Cut)) i
 heard i p (Message s a b) = played i (decode s a b)
 heard i p SysEx = exclusive i (body p)
 

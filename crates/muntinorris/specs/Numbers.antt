@@ -1,16 +1,20 @@
 -- The answers of document 01 in plain numbers, as C has them: what it is (0 none, 1 done, 2 a note, 3 a number), the paper's number, and the values that the answer
 -- carries. A field without meaning is 0.
 use Prim.Native.Nat.{ℕ}
+use mathlib.Core.Option.{Option, some, none}
 use Rattle.allocation.specs.declared.Was.{Was}
 use Rattle.allocation.specs.declared.Was.the-variants.{Idle, Release, Stolen}
 use Rattle.playing.specs.declared.Answer.{Answer}
 use Rattle.playing.specs.declared.Answer.the-variants.{Nothing, Done, Note, NoNote, Number}
+use Rattle.playing.specs.Playing.{numberOf}
 use Rattle.queries.specs.declared.GeneratorAnswer.{GeneratorAnswer}
 use Rattle.queries.specs.declared.GeneratorAnswer.the-variants.{GeneratorIs, NoGenerator}
+use Rattle.queries.specs.Queries.{generatorNumber}
 use Rattle.shares.specs.declared.MaskAnswer.{MaskAnswer}
 use Rattle.shares.specs.declared.MaskAnswer.the-variants.{IsMasked, IsUnmasked, NoSuchChannel}
 use Rattle.shares.specs.declared.ShareAnswer.{ShareAnswer}
 use Rattle.shares.specs.declared.ShareAnswer.the-variants.{ShareIs, NotAChannel}
+use Rattle.shares.specs.Shares.{maskNumber, shareNumber}
 use Rattle.muntinorris.specs.declared.AnswerNumbers.{AnswerNumbers}
 use Rattle.muntinorris.specs.declared.GeneratorNumbers.{GeneratorNumbers}
 use Rattle.muntinorris.specs.declared.MaskNumbers.{MaskNumbers}
@@ -22,24 +26,29 @@ wasNumber Idle = 0
 wasNumber Release = 1
 wasNumber Stolen = 2
 
+-- the paper's number of an answer, 0 where it has none
+abbrev pub orZero : Option ℕ → ℕ
+orZero none = 0
+orZero (some n) = n
+
 -- "The answer is note (channel, key, generator, what the generator was ..), done .., none, or a number"; "numbers 10 and 11 give channel and key"
 abbrev pub numbersOf : Answer → AnswerNumbers
 numbersOf Nothing = record { what = 0; number = 0; channel = 0; key = 0; generator = 0; was = 0 }
 numbersOf Done = record { what = 1; number = 0; channel = 0; key = 0; generator = 0; was = 0 }
 numbersOf (Note c k g w) = record { what = 2; number = 0; channel = c; key = k; generator = g; was = wasNumber w }
-numbersOf (NoNote n c k) = record { what = 3; number = n; channel = c; key = k; generator = 0; was = 0 }
-numbersOf (Number n) = record { what = 3; number = n; channel = 0; key = 0; generator = 0; was = 0 }
+numbersOf (NoNote n c k) = record { what = 3; number = orZero (numberOf (NoNote n c k)); channel = c; key = k; generator = 0; was = 0 }
+numbersOf (Number n) = record { what = 3; number = orZero (numberOf (Number n)); channel = 0; key = 0; generator = 0; was = 0 }
 
 -- "A refused query gives its number only"
 abbrev pub generatorNumbers : GeneratorAnswer → GeneratorNumbers
 generatorNumbers (GeneratorIs s c k) = record { number = 0; state = s; channel = c; key = k }
-generatorNumbers NoGenerator = record { number = 12; state = 0; channel = 0; key = 0 }
+generatorNumbers NoGenerator = record { number = orZero (generatorNumber NoGenerator); state = 0; channel = 0; key = 0 }
 
 abbrev pub maskNumbers : MaskAnswer → MaskNumbers
 maskNumbers IsMasked = record { number = 0; masked = 1 }
 maskNumbers IsUnmasked = record { number = 0; masked = 0 }
-maskNumbers NoSuchChannel = record { number = 14; masked = 0 }
+maskNumbers NoSuchChannel = record { number = orZero (maskNumber NoSuchChannel); masked = 0 }
 
 abbrev pub shareNumbers : ShareAnswer → ShareNumbers
 shareNumbers (ShareIs n) = record { number = 0; share = n }
-shareNumbers NotAChannel = record { number = 14; share = 0 }
+shareNumbers NotAChannel = record { number = orZero (shareNumber NotAChannel); share = 0 }
