@@ -2,30 +2,44 @@
 // Assumes nothing.
 ghost use mathlib.Core.Path.{_≡_};
 ghost use mathlib.Core.Bool.{_&&_, not};
+ghost use Prim.Native.Nat.{ℕ, _<_};
 ghost use lib.Dec.{eqb};
 ghost use lib.ListN.{getD};
 ghost use Rattle.loops.specs.Cases.{if_then_else_};
 ghost use Rattle.loops.specs.Passes.{upTo, marksOf};
 ghost use Rattle.generators.specs.Generators.{generator, isBusy};
+ghost use Rattle.shares.specs.Shares.{shareOf, isMasked};
 ghost use Rattle.masking.specs.Masking.{isNewlyMasked, masked};
 use generators::Generators;
 use table::Table;
 
-// Whether channel c plays by the old table and does not by the new one.
-fn is_newly_masked(p: u8, old: Table, new: Table, c: u8) -> bool
-    ensures { λ r. ⌜ r ≡ isNewlyMasked p old new c ⌝ }
+// A mark for each channel that a table leaves unmasked among p generators, in one pass over its entries.
+fn unmasked(t: Table, p: u8) -> [u8; 256]
+    ensures { λ r. ⌜ ((c : ℕ) → c < 256 → eqb (getD r c 0) 0 ≡ isMasked (shareOf t p c)) ⌝ }
 {
-    shares::is_channel(c) & (!shares::masks(old, p, c) & shares::masks(new, p, c))
+    let entries = t.entries;
+    let n = loops::at_most(16, t.count) as usize;
+    let mut out = [0u8; 256];
+    let mut i: usize = 0;
+    while i < n {
+        let e = entries[i];
+        let mark = loops::place(e.channel);
+        out[mark] = loops::if_else(e.value <= p, 1, out[mark]);
+        i += 1;
+    }
+    out
 }
 
-// A mark for each newly masked channel, by its number; what is above 16 is no channel and has none.
+// A mark for each newly masked channel, by its number: it plays by the old table and not by the new one. What is above 16 is no channel and has none.
 fn marks(p: u8, old: Table, new: Table) -> [u8; 256]
     ensures { λ r. ⌜ r ≡ marksOf (isNewlyMasked p old new) ⌝ }
 {
+    let before = unmasked(old, p);
+    let after = unmasked(new, p);
     let mut out = [0u8; 256];
     let mut i: usize = 0;
     while i < 17 {
-        out[i] = loops::one(is_newly_masked(p, old, new, i as u8));
+        out[i] = loops::one(shares::is_channel(i as u8) & ((before[i] != 0) & (after[i] == 0)));
         i += 1;
     }
     out

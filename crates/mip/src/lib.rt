@@ -3,7 +3,7 @@
 ghost use mathlib.Core.Path.{_≡_};
 ghost use Prim.Native.Nat.{_≤_};
 ghost use lib.ListN.{drop};
-ghost use Rattle.table.specs.Table.{entriesOf, listed, pushed};
+ghost use Rattle.table.specs.Table.{pushed};
 ghost use Rattle.splitter.specs.Split.{body};
 ghost use Rattle.sysex.specs.SysEx.{pairs, refused, judgedPairs, judged};
 use splitter::Parser;
@@ -20,23 +20,6 @@ const EMPTY: Table = Table {
         value: 0,
     }; 16],
 };
-
-// Whether a table lists channel c.
-fn lists(t: Table, c: u8) -> bool
-    ensures { λ r. ⌜ r ≡ listed c (entriesOf t) ⌝ }
-{
-    let entries = t.entries;
-    let n = loops::at_most(16, t.count) as usize;
-    let mut i: usize = 0;
-    while i < n {
-        let e = entries[i];
-        if c == e.channel {
-            return true;
-        }
-        i += 1;
-    }
-    false
-}
 
 // One entry more, of the lowest priority; a full table stays as it is.
 fn push(t: Table, e: Entry) -> Table
@@ -63,7 +46,7 @@ fn refuse(number: u8) -> Judged
     }
 }
 
-// Numbers 7 to 9, pair by pair: the pairs of parser p start after the four bytes of the head. A last byte without a partner is not looked at.
+// Numbers 7 to 9, pair by pair, with a mark for each channel that was listed: the pairs of parser p start after the four bytes of the head. A last byte without a partner is not looked at.
 fn judge_pairs(p: Parser) -> Judged
     requires { ⌜ p .count ≤ 36 ⌝ }
     ensures { λ r. ⌜ r ≡ judgedPairs (pairs (drop 4 (body p))) ⌝ }
@@ -72,6 +55,7 @@ fn judge_pairs(p: Parser) -> Judged
     let n = p.count as usize;
     let mut t = EMPTY;
     let mut before: u8 = 0;
+    let mut listed = [0u8; 256];
     let mut i: usize = 4;
     while i + 1 < n {
         let m = bytes[i];
@@ -80,7 +64,8 @@ fn judge_pairs(p: Parser) -> Judged
             return refuse(7);
         }
         let c = m + 1;
-        if lists(t, c) {
+        let mark = loops::place(c);
+        if listed[mark] != 0 {
             return refuse(8);
         }
         if v < before {
@@ -92,6 +77,7 @@ fn judge_pairs(p: Parser) -> Judged
         };
         let next = push(t, e);
         t = next;
+        listed[mark] = 1;
         before = v;
         i += 2;
     }

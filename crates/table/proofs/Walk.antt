@@ -1,19 +1,17 @@
--- A loop over the first n entries of a table's array: at turn i the answer for the entries from i on is the answer for all of them.
+-- A loop over the first n entries of a table's array: what is left of them at turn i.
 -- Assumes nothing.
 use mathlib.Core.Path.{_≡_, ap, _∙_}
-use mathlib.Core.Bool.{Bool, true, false}
 use mathlib.Core.List.{List, [], _∷_}
 use Prim.Native.Nat.{ℕ, _+_, _≤_, _<_}
 use native.Mathlib.Numerals.{add-one}
 use native.Mathlib.Omega.{arith}
-use lib.Dec.{eqb}
 use lib.ListN.{length, take, drop, getD, length-take, drop-of-length-le}
 use lib.Seq.{drop-cons, getD-take}
 use Rattle.loops.specs.Cases.{atMost}
 use Rattle.loops.proofs.Padded.{take-at-most}
 use Rattle.table.specs.declared.Entry.{Entry}
 use Rattle.table.specs.declared.Table.{Table}
-use Rattle.table.specs.Table.{entry, entriesOf, listed}
+use Rattle.table.specs.Table.{entry, entriesOf}
 
 -- going as far as the count, or to 16 where it is above, is going over all entries
 pub all-entries : (t : Table) (n : ℕ) → length (t .entries) ≡ 16 → n ≡ atMost 16 (t .count) → take n (t .entries) ≡ entriesOf t
@@ -30,17 +28,3 @@ module _ (l : List Entry) (n i : ℕ) where
   rest-end h =
       let s : length (take n l) ≤ i = rw length-take (omega arith) in
       drop-of-length-le (take n l) s
-
-  -- the entry at i is the channel's; it is another's; there is none left
-  pub listed-here : (c : ℕ) (r : Bool) → i < n → n ≤ length l → listed c (drop i (take n l)) ≡ r → eqb c (getD l i (entry 0 0) .channel) ≡ true → true ≡ r
-  unfolding listed
-  listed-here c r h k e t = rw (rest-next h k, t) at e
-
-  pub listed-next : (c : ℕ) (r : Bool) → i < n → n ≤ length l → listed c (drop i (take n l)) ≡ r → eqb c (getD l i (entry 0 0) .channel) ≡ false
-      → listed c (drop (i + 1) (take n l)) ≡ r
-  unfolding listed
-  listed-next c r h k e t = rw (rest-next h k, t) at e
-
-  pub listed-end : (c : ℕ) (r : Bool) → n ≤ i → listed c (drop i (take n l)) ≡ r → false ≡ r
-  unfolding listed
-  listed-end c r h e = rw (rest-end h) at e

@@ -2,34 +2,53 @@
 -- Assumes nothing.
 use Prim.Native.Nat.{ℕ, _≤_, _<_, _-_}
 use mathlib.Core.Path.{_≡_, refl, sym, ap, _∙_}
-use mathlib.Core.List.{_++_}
+use mathlib.Core.Bool.{_&&_, not}
+use mathlib.Core.List.{List, _++_}
 use native.Mathlib.Omega.{arith}
-use lib.ListN.{drop, replicate}
+use lib.Dec.{eqb}
+use lib.ListN.{drop, getD, replicate}
 use Rattle.loops.specs.Cases.{bit}
 use Rattle.loops.specs.Passes.{upTo}
-use Rattle.loops.proofs.Fill.{fill-next}
+use Rattle.loops.proofs.Fill.{fill-next, upTo-same}
 use Rattle.loops.proofs.Marks.{room, marks-end}
+use Rattle.shares.specs.Shares.{isChannel}
 use Rattle.masking.specs.Masking.{isNewlyMasked}
 use Rattle.masking.proofs.Marked.{no-channel}
 use borrow.Author.Needs.{needs}
 use Rattle.masking.proofs.marks.Statement.{statement}
 use Rattle.masking.proofs.marks.Tie as tie
 
+-- the mark of channel c, by the marks of the two tables
+abbrev rule : List ℕ → List ℕ → ℕ → ℕ
+rule before after c = bit (isChannel c && (not (eqb (getD before c 0) 0) && eqb (getD after c 0) 0))
+
 abbrev Inv-loop : tie.InvT-loop
-Inv-loop p old new out₀ i₀ out i = (i ≤ 17) × (out ≡ upTo (λ c. bit (isNewlyMasked p old new c)) i ++ drop i (replicate 256 0))
+Inv-loop p before after out₀ i₀ out i = (i ≤ 17) × (out ≡ upTo (rule before after) i ++ drop i (replicate 256 0))
 
 abbrev μ-loop : tie.MeasureT-loop
-μ-loop p old new out₀ i₀ out i = 17 - i
+μ-loop p before after out₀ i₀ out i = 17 - i
+
+unmasked-requires : tie.Need-unmasked-requires Inv-loop μ-loop
+unmasked-requires c κs = search needs
+
+unmasked-requires-2 : tie.Need-unmasked-requires-2 Inv-loop μ-loop
+unmasked-requires-2 c κs = search needs
 
 loop-holds : tie.Need-loop-holds Inv-loop μ-loop
 unfolding upTo
 loop-holds c = (omega arith, refl)
 
-cast-is-newly-masked : tie.Need-cast-is-newly-masked Inv-loop μ-loop
-cast-is-newly-masked c = search needs
+cast-is-channel : tie.Need-cast-is-channel Inv-loop μ-loop
+cast-is-channel c = search needs
 
-is-newly-masked-requires : tie.Need-is-newly-masked-requires Inv-loop μ-loop
-is-newly-masked-requires c κs = search needs
+is-channel-requires : tie.Need-is-channel-requires Inv-loop μ-loop
+is-channel-requires c κs = search needs
+
+array-read-one : tie.Need-array-read-one Inv-loop μ-loop
+array-read-one c = search needs
+
+array-read-one-2 : tie.Need-array-read-one-2 Inv-loop μ-loop
+array-read-one-2 c = search needs
 
 one-requires : tie.Need-one-requires Inv-loop μ-loop
 one-requires c κs = search needs
@@ -46,16 +65,21 @@ loop-less c = search needs
 loop-again : tie.Need-loop-again Inv-loop μ-loop
 loop-again c =
     let l = c .before .before .before .loop in
-    let a = c .before .before .before .before .args in
-    let x = c .one .ensures .0 ∙ ap bit (c .before .is-newly-masked .ensures) in
-    (omega arith, fill-next (λ (c : ℕ). bit (isNewlyMasked (a .p) (a .old) (a .new) c)) 0 (replicate 256 0) (l .out) (l .i) _ (room (l .i) (omega arith)) (l .inv .1) x)
+    let before = c .before .before .before .before .before .unmasked .result in
+    let after = c .before .before .before .before .unmasked2 .result in
+    let x = rw (c .before .is-channel .ensures) at (c .one .ensures .0) in
+    (omega arith, fill-next (rule before after) 0 (replicate 256 0) (l .out) (l .i) _ (room (l .i) (omega arith)) (l .inv .1) x)
 
 returns : tie.Need-returns Inv-loop μ-loop
 returns c =
     let l = c .before .loop in
-    let a = c .before .before .args in
+    let a = c .before .before .before .before .args in
+    let before = c .before .before .before .unmasked in
+    let after = c .before .before .unmasked2 in
     let e : l .i ≡ 17 = omega arith in
-    marks-end (isNewlyMasked (a .p) (a .old) (a .new)) 17 (no-channel (a .p) (a .old) (a .new)) 239 refl (l .out) (rw e at (l .inv .1))
+    let same : (k : ℕ) → k < 17 → rule (before .result) (after .result) k ≡ bit (isNewlyMasked (a .p) (a .old) (a .new) k) = λ k h. rw (before .ensures k (omega arith), after .ensures k (omega arith)) in
+    marks-end (isNewlyMasked (a .p) (a .old) (a .new)) 17 (no-channel (a .p) (a .old) (a .new)) 239 refl (l .out)
+    ((rw e at (l .inv .1)) ∙ ap (λ (m : List ℕ). m ++ drop 17 (replicate 256 0)) (upTo-same _ _ 17 same))
 
 pub marks-spec : {M : Type 1} → statement M
 marks-spec =
@@ -63,9 +87,13 @@ marks-spec =
     (tie.spec
     Inv-loop
     μ-loop
+    unmasked-requires
+    unmasked-requires-2
     loop-holds
-    cast-is-newly-masked
-    is-newly-masked-requires
+    cast-is-channel
+    is-channel-requires
+    array-read-one
+    array-read-one-2
     one-requires
     array-write-out
     add-i

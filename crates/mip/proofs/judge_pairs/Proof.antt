@@ -1,26 +1,30 @@
 -- `mip::judge_pairs` meets its contract. Invariant: the table is that of its entries, two bytes for each, and the judgement of these entries and the pairs from i on
 -- is that of all pairs. The measure is the number of bytes left.
 -- Assumes nothing.
-use Prim.Native.Nat.{_+_, _*_, _≤_, _-_}
+use Prim.Native.Nat.{ℕ, _+_, _*_, _≤_, _-_}
 use mathlib.Core.Path.{_≡_, refl, sym, _∙_}
 use mathlib.Core.List.{_++_}
 use native.Mathlib.Omega.{arith}
 use borrow.Author.Needs.{needs}
-use lib.ListN.{length, take, drop}
+use lib.ListN.{length, take, drop, length-set}
+use borrow.Author.Tests.{eq-eqb, ne-eqb}
+use mathlib.Core.Bool.{true, false}
 use Rattle.loops.specs.Passes.{padded}
 use Rattle.splitter.proofs.Sizes.{bytes-37}
 use Rattle.table.specs.Table.{entriesOf, tableOf}
 use Rattle.sysex.specs.SysEx.{pairs, faulty, judgedBy, judgedPairs}
+use Rattle.mip.proofs.Listed.{Marks, no-marks, mark-more, by-mark}
 use Rattle.mip.proofs.Pairs.{one-entry-more, not-a-channel, listed-twice, value-falls, good-pair, no-pair}
 use Rattle.mip.proofs.judge_pairs.Statement.{statement}
 use Rattle.mip.proofs.judge_pairs.Tie as tie
 
 abbrev Inv-loop : tie.InvT-loop
-Inv-loop bytes n t₀ before₀ i₀ t before i = (n ≤ 36) × (i ≤ 36) × (length bytes ≡ 37) × (2 * t .count + 4 ≡ i) × (t ≡ tableOf (entriesOf t))
+Inv-loop bytes n t₀ before₀ listed₀ i₀ t before listed i = (n ≤ 36) × (i ≤ 36) × (length bytes ≡ 37) × (2 * t .count + 4 ≡ i) × (t ≡ tableOf (entriesOf t))
     × (judgedBy (entriesOf t ++ pairs (drop i (take n bytes))) (faulty (entriesOf t) before (pairs (drop i (take n bytes)))) ≡ judgedPairs (pairs (drop 4 (take n bytes))))
+    × (length listed ≡ 256) × Marks (entriesOf t) listed
 
 abbrev μ-loop : tie.MeasureT-loop
-μ-loop bytes n t₀ before₀ i₀ t before i = n - i
+μ-loop bytes n t₀ before₀ listed₀ i₀ t before listed i = n - i
 
 cast-n : tie.Need-cast-n Inv-loop μ-loop
 cast-n c = omega arith
@@ -29,7 +33,7 @@ loop-holds : tie.Need-loop-holds Inv-loop μ-loop
 unfolding tableOf padded
 loop-holds c =
     let s = c .before .before in
-    (s .pre, omega arith, bytes-37 (s .args .p) (s .good .0), omega arith, refl, refl)
+    (s .pre, omega arith, bytes-37 (s .args .p) (s .good .0), omega arith, refl, refl, refl, no-marks)
 
 add-loop : tie.Need-add-loop Inv-loop μ-loop
 add-loop c = omega arith
@@ -57,8 +61,11 @@ returns c =
 add-c : tie.Need-add-c Inv-loop μ-loop
 add-c c = omega arith
 
-lists-requires : tie.Need-lists-requires Inv-loop μ-loop
-lists-requires c κs = search needs
+place-requires : tie.Need-place-requires Inv-loop μ-loop
+place-requires c κs = search needs
+
+array-read-if2 : tie.Need-array-read-if2 Inv-loop μ-loop
+array-read-if2 c = c .place .ensures .1
 
 refuse-requires-2 : tie.Need-refuse-requires-2 Inv-loop μ-loop
 refuse-requires-2 c κs = search needs
@@ -70,7 +77,7 @@ returns-2 c =
     let p = b .before .before .before .args .p in
     c .refuse2 .ensures
     ∙ listed-twice (p .bytes) (p .count) (l .i) (l .before) (entriesOf (l .t)) _ (omega arith) (omega arith) (l .inv .5)
-    (c .before .before .before .if1 .left) (sym (c .before .before .lists .ensures) ∙ c .before .if2 .taken)
+    (c .before .before .before .if1 .left) (by-mark (entriesOf (l .t)) (l .listed) (c .before .before .place .result) _ false (l .inv .7) (c .before .before .place .ensures .1) (c .before .before .place .ensures .0) (ne-eqb _ _ (c .before .if2 .taken)))
 
 refuse-requires-3 : tie.Need-refuse-requires-3 Inv-loop μ-loop
 refuse-requires-3 c κs = search needs
@@ -82,10 +89,13 @@ returns-3 c =
     let p = b .before .before .before .args .p in
     c .refuse3 .ensures
     ∙ value-falls (p .bytes) (p .count) (l .i) (l .before) (entriesOf (l .t)) _ (omega arith) (omega arith) (l .inv .5)
-    (c .before .before .before .before .if1 .left) (sym (c .before .before .before .lists .ensures) ∙ c .before .before .if2 .left) (c .before .if3 .taken)
+    (c .before .before .before .before .if1 .left) (by-mark (entriesOf (l .t)) (l .listed) (c .before .before .before .place .result) _ true (l .inv .7) (c .before .before .before .place .ensures .1) (c .before .before .before .place .ensures .0) (eq-eqb _ _ (c .before .before .if2 .left))) (c .before .if3 .taken)
 
 push-requires : tie.Need-push-requires Inv-loop μ-loop
 push-requires c κs = search needs
+
+array-write-listed : tie.Need-array-write-listed Inv-loop μ-loop
+array-write-listed c = c .before .before .before .place .ensures .1
 
 add-i : tie.Need-add-i Inv-loop μ-loop
 add-i c = omega arith
@@ -100,8 +110,10 @@ loop-again c =
     let p = b .before .before .before .args .p in
     let u = one-entry-more (l .t) (c .push .result) _ (l .inv .4) (omega arith) (c .push .ensures) in
     let w = good-pair (p .bytes) (p .count) (l .i) (l .before) (entriesOf (l .t)) _ (omega arith) (omega arith) (l .inv .5)
-    (c .before .before .before .before .if1 .left) (sym (c .before .before .before .lists .ensures) ∙ c .before .before .if2 .left) (c .before .if3 .left) _ (u .1) in
-    (omega arith, omega arith, l .inv .2, omega arith, u .2, w)
+    (c .before .before .before .before .if1 .left) (by-mark (entriesOf (l .t)) (l .listed) (c .before .before .before .place .result) _ true (l .inv .7) (c .before .before .before .place .ensures .1) (c .before .before .before .place .ensures .0) (eq-eqb _ _ (c .before .before .if2 .left))) (c .before .if3 .left) _ (u .1) in
+    let k = c .before .before .before .place in
+    let s = length-set {A = ℕ} (l .listed) (k .result) 1 in
+    (omega arith, omega arith, l .inv .2, omega arith, u .2, w, s ∙ l .inv .6, mark-more (entriesOf (l .t)) _ (l .listed) (k .result) _ (omega arith) (k .ensures .0) (u .1) (l .inv .7))
 
 returns-4 : tie.Need-returns-4 Inv-loop μ-loop
 returns-4 c =
@@ -124,12 +136,14 @@ judge-pairs-spec =
     refuse-requires
     returns
     add-c
-    lists-requires
+    place-requires
+    array-read-if2
     refuse-requires-2
     returns-2
     refuse-requires-3
     returns-3
     push-requires
+    array-write-listed
     add-i
     loop-less
     loop-again
