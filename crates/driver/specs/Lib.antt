@@ -1,2 +1,2 @@
 -- The lent record.
-pub mod Touched
+pub mod Heard

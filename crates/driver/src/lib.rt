@@ -4,84 +4,11 @@
 ghost use mathlib.Core.Path.{_≡_};
 ghost use Rattle.events.specs.Events.{taken};
 ghost use Rattle.events.specs.declared.Event.the-variants.{Byte, Report};
-ghost use Rattle.driver.specs.Touched.{isQuiet, quietAnswer, keyIn, keyOf, noKey, noteHeard, acted, heardBy};
+ghost use Rattle.driver.specs.Heard.{noteHeard, acted, heardBy};
 use device::Device;
-use message::Message;
 use playing::Answer;
 use splitter::Completed;
 use splitter::Parser;
-
-// Whether the byte concerns the parser alone.
-fn is_quiet(c: Completed) -> bool
-    ensures { λ r. ⌜ r ≡ isQuiet c ⌝ }
-{
-    match c {
-        Completed::Nothing => true,
-        Completed::Stray => true,
-        Completed::Cut => true,
-        Completed::Message(_, _, _) => false,
-        Completed::SysEx => false,
-    }
-}
-
-// The answer to such a byte.
-fn quiet_answer(c: Completed) -> Answer
-    ensures { λ r. ⌜ r ≡ quietAnswer c ⌝ }
-{
-    match c {
-        Completed::Nothing => Answer::Nothing,
-        Completed::Stray => Answer::Number(3),
-        Completed::Cut => Answer::Number(4),
-        Completed::Message(_, _, _) => Answer::Nothing,
-        Completed::SysEx => Answer::Nothing,
-    }
-}
-
-// The channel and key of a note-on with a velocity above 0; `sounds` is false for anything else.
-struct Key {
-    sounds: bool,
-    channel: u8,
-    key: u8,
-}
-
-fn key_of(c: Completed) -> Key
-    ensures { λ r. ⌜ r ≡ keyOf c ⌝ }
-{
-    match c {
-        Completed::Nothing => no_key(),
-        Completed::Stray => no_key(),
-        Completed::Cut => no_key(),
-        Completed::Message(s, a, b) => key_in(message::read(s, a, b)),
-        Completed::SysEx => no_key(),
-    }
-}
-
-fn key_in(m: Message) -> Key
-    ensures { λ r. ⌜ r ≡ keyIn m ⌝ }
-{
-    match m {
-        Message::NoteOn(channel, key) => Key {
-            sounds: true,
-            channel: channel,
-            key: key,
-        },
-        Message::NoteOff(_, _) => no_key(),
-        Message::Control(_, _, _) => no_key(),
-        Message::Program(_, _) => no_key(),
-        Message::Bend(_, _, _) => no_key(),
-        Message::Other => no_key(),
-    }
-}
-
-fn no_key() -> Key
-    ensures { λ r. ⌜ r ≡ noKey ⌝ }
-{
-    Key {
-        sounds: false,
-        channel: 0,
-        key: 0,
-    }
-}
 
 // A note-on with a velocity above 0 touches the generators alone: the rest of the record stays where it is.
 fn note(d: &mut Device, channel: u8, key: u8) -> Answer
@@ -107,7 +34,7 @@ fn hear(d: &mut Device, b: u8, c: Completed) -> Answer
 {
     let p = d.parser;
     d.parser = p.after(b);
-    let k = key_of(c);
+    let k = touched::key_of(c);
     if k.sounds {
         return note(d, k.channel, k.key);
     }
@@ -119,9 +46,9 @@ pub fn byte(d: &mut Device, b: u8) -> Answer
     ensures { λ r. ⌜ (r ≡ taken (now (d .entry)) (Byte b) .answer) × (now (d .exit) ≡ taken (now (d .entry)) (Byte b) .device) ⌝ }
 {
     let c = d.parser.completes(b);
-    if is_quiet(c) {
+    if touched::is_quiet(c) {
         d.parser = d.parser.after(b);
-        return quiet_answer(c);
+        return touched::quiet_answer(c);
     }
     hear(d, b, c)
 }

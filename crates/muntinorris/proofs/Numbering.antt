@@ -16,10 +16,10 @@ use denote.Triple.Statement.{Contract}
 use denote.Triple.Clauses.{ensured, lasts}
 use denote.Triple.Spec.{tripleOf}
 use Rattle.playing.specs.declared.Answer.{Answer}
-use Rattle.muntinorris.specs.declared.AnswerNumbers.{AnswerNumbers}
-use Rattle.muntinorris.specs.Numbers.{numbersOf}
+use Rattle.numbers.specs.declared.AnswerNumbers.{AnswerNumbers}
+use Rattle.numbers.specs.Numbers.{numbersOf}
 use Rattle.playing.proofs.Answer as N
-use Rattle.muntinorris.proofs.answer_numbers as numbers
+use Rattle.numbers.proofs.answer_numbers as numbers
 
 module _ {M : Type 1} (𝓤 : URA M) (H : Heap 𝓤) (A : Atoms 𝓤) (at-mem : Memory → SProp 𝓤) (run : Routine → Fun 𝓤) where
   abbrev pub Numbering : Contract 𝓤

@@ -41,18 +41,18 @@ use denote.Exit.{yes}
 use Rattle.playing.specs.declared.Answer.{Answer}
 use Rattle.device.specs.declared.Device.{Device}
 use Rattle.device.specs.declared.Output.{Output}
-use Rattle.muntinorris.specs.declared.AnswerNumbers.{AnswerNumbers}
-use Rattle.muntinorris.specs.Numbers.{numbersOf}
+use Rattle.numbers.specs.declared.AnswerNumbers.{AnswerNumbers}
+use Rattle.numbers.specs.Numbers.{numbersOf}
 use Rattle.device.proofs.Device as D
 use Rattle.device.proofs.Device.Laws as D′
 use Rattle.playing.proofs.Answer as N
 use Rattle.playing.proofs.Answer.Laws as N′
-use Rattle.muntinorris.proofs.AnswerNumbers as O
-use Rattle.muntinorris.proofs.AnswerNumbers.Laws as O′
-use Rattle.muntinorris.proofs.answer_numbers as numbers
-use Rattle.muntinorris.proofs.answer_numbers.Symbol as numbers-def
-use Rattle.muntinorris.proofs.answer_numbers.Symbol.{name as #numbers}
-use Rattle.muntinorris.proofs.answer_numbers.Met as numbers-thm
+use Rattle.numbers.proofs.AnswerNumbers as O
+use Rattle.numbers.proofs.AnswerNumbers.Laws as O′
+use Rattle.numbers.proofs.answer_numbers as numbers
+use Rattle.numbers.proofs.answer_numbers.Symbol as numbers-def
+use Rattle.numbers.proofs.answer_numbers.Symbol.{name as #numbers}
+use Rattle.numbers.proofs.answer_numbers.Met as numbers-thm
 use Rattle.muntinorris.proofs.Numbering.{Numbering, numbers-of, to-numbers, goes-numbers}
 
 abbrev Arg : Type 0

@@ -46,7 +46,7 @@ use Rattle.playing.specs.declared.Answer.{Answer}
 use Rattle.playing.specs.declared.Reply.{Reply}
 use Rattle.device.specs.declared.Device.{Device}
 use Rattle.device.specs.Device as definition
-use Rattle.driver.specs.Touched.{acted}
+use Rattle.driver.specs.Heard.{acted}
 use Rattle.driver.proofs.Lent.{device-of, dev-val, par-val, ins-val, head, made}
 use Rattle.device.proofs.Device as D
 use Rattle.device.proofs.Device.Laws as D′

@@ -54,7 +54,8 @@ use Rattle.playing.specs.Playing.{replied}
 use Rattle.device.specs.Device as definition
 use Rattle.events.specs.Events.{taken}
 use Rattle.events.specs.declared.Event.the-variants.{Byte}
-use Rattle.driver.specs.Touched.{isQuiet, quietAnswer, heardBy}
+use Rattle.touched.specs.Touched.{isQuiet, quietAnswer}
+use Rattle.driver.specs.Heard.{heardBy}
 use Rattle.driver.proofs.Lent.{device-of, dev-val, par-val, head, spelled, made, holds, go-on}
 use Rattle.device.proofs.Device as D
 use Rattle.device.proofs.Device.Laws as D′
@@ -72,14 +73,14 @@ use Rattle.splitter.proofs.Parser.after as after
 use Rattle.splitter.proofs.Parser.after.Symbol as after-def
 use Rattle.splitter.proofs.Parser.after.Symbol.{name as #after}
 use Rattle.splitter.proofs.Parser.after.Met as after-thm
-use Rattle.driver.proofs.is_quiet as is-quiet
-use Rattle.driver.proofs.is_quiet.Symbol as is-quiet-def
-use Rattle.driver.proofs.is_quiet.Symbol.{name as #is-quiet}
-use Rattle.driver.proofs.is_quiet.Met as is-quiet-thm
-use Rattle.driver.proofs.quiet_answer as quiet-answer
-use Rattle.driver.proofs.quiet_answer.Symbol as quiet-answer-def
-use Rattle.driver.proofs.quiet_answer.Symbol.{name as #quiet-answer}
-use Rattle.driver.proofs.quiet_answer.Met as quiet-answer-thm
+use Rattle.touched.proofs.is_quiet as is-quiet
+use Rattle.touched.proofs.is_quiet.Symbol as is-quiet-def
+use Rattle.touched.proofs.is_quiet.Symbol.{name as #is-quiet}
+use Rattle.touched.proofs.is_quiet.Met as is-quiet-thm
+use Rattle.touched.proofs.quiet_answer as quiet-answer
+use Rattle.touched.proofs.quiet_answer.Symbol as quiet-answer-def
+use Rattle.touched.proofs.quiet_answer.Symbol.{name as #quiet-answer}
+use Rattle.touched.proofs.quiet_answer.Met as quiet-answer-thm
 use Rattle.driver.proofs.hear as hear
 use Rattle.driver.proofs.hear.Symbol as hear-def
 use Rattle.driver.proofs.hear.Symbol.{name as #hear}
@@ -312,9 +313,9 @@ byte-spec 𝓤 H 𝓜 𝓖 𝓡 =
       (
         cited 𝓤 H (After 𝓤 H (𝓖 .A) (𝓜 .mem) (𝓡 .run)) 𝓜 𝓡 code.env #after after-def.routine code.calls-splitter·Parser·after (after-thm.met 𝓤 H 𝓜 𝓖 𝓡),
         (
-          cited 𝓤 H (IsQuiet 𝓤 H (𝓖 .A) (𝓜 .mem) (𝓡 .run)) 𝓜 𝓡 code.env #is-quiet is-quiet-def.routine code.calls-driver·is-quiet (is-quiet-thm.met 𝓤 H 𝓜 𝓖 𝓡),
+          cited 𝓤 H (IsQuiet 𝓤 H (𝓖 .A) (𝓜 .mem) (𝓡 .run)) 𝓜 𝓡 code.env #is-quiet is-quiet-def.routine code.calls-touched·is-quiet (is-quiet-thm.met 𝓤 H 𝓜 𝓖 𝓡),
           (
-            cited 𝓤 H (QuietAnswer 𝓤 H (𝓖 .A) (𝓜 .mem) (𝓡 .run)) 𝓜 𝓡 code.env #quiet-answer quiet-answer-def.routine code.calls-driver·quiet-answer (quiet-answer-thm.met 𝓤 H 𝓜 𝓖 𝓡),
+            cited 𝓤 H (QuietAnswer 𝓤 H (𝓖 .A) (𝓜 .mem) (𝓡 .run)) 𝓜 𝓡 code.env #quiet-answer quiet-answer-def.routine code.calls-touched·quiet-answer (quiet-answer-thm.met 𝓤 H 𝓜 𝓖 𝓡),
             cited 𝓤 H (Hear 𝓤 H (𝓖 .A) (𝓜 .mem) (𝓡 .run)) 𝓜 𝓡 code.env #hear hear-def.routine code.calls-driver·hear (hear-thm.met 𝓤 H 𝓜 𝓖 𝓡),
           ),
         ),

@@ -56,8 +56,9 @@ use Rattle.playing.specs.declared.Reply.{Reply}
 use Rattle.playing.specs.Playing.{playNoteOn, played}
 use Rattle.device.specs.declared.Device.{Device}
 use Rattle.device.specs.Device as definition
-use Rattle.driver.specs.declared.Key.{Key}
-use Rattle.driver.specs.Touched.{keyOf, keyIn, noteHeard, acted, heardBy}
+use Rattle.touched.specs.declared.Key.{Key}
+use Rattle.touched.specs.Touched.{keyOf, keyIn}
+use Rattle.driver.specs.Heard.{noteHeard, acted, heardBy}
 use Rattle.driver.proofs.Lent.{device-of, dev-val, par-val, head, spelled, made, holds, go-on}
 use Rattle.device.proofs.Device as D
 use Rattle.device.proofs.Device.Laws as D′
@@ -67,16 +68,16 @@ use Rattle.splitter.proofs.Completed as K
 use Rattle.splitter.proofs.Completed.Laws as K′
 use Rattle.playing.proofs.Answer as N
 use Rattle.playing.proofs.Answer.Laws as N′
-use Rattle.driver.proofs.Key as Y
-use Rattle.driver.proofs.Key.Laws as Y′
+use Rattle.touched.proofs.Key as Y
+use Rattle.touched.proofs.Key.Laws as Y′
 use Rattle.splitter.proofs.Parser.after as after
 use Rattle.splitter.proofs.Parser.after.Symbol as after-def
 use Rattle.splitter.proofs.Parser.after.Symbol.{name as #after}
 use Rattle.splitter.proofs.Parser.after.Met as after-thm
-use Rattle.driver.proofs.key_of as key-of
-use Rattle.driver.proofs.key_of.Symbol as key-of-def
-use Rattle.driver.proofs.key_of.Symbol.{name as #key-of}
-use Rattle.driver.proofs.key_of.Met as key-of-thm
+use Rattle.touched.proofs.key_of as key-of
+use Rattle.touched.proofs.key_of.Symbol as key-of-def
+use Rattle.touched.proofs.key_of.Symbol.{name as #key-of}
+use Rattle.touched.proofs.key_of.Met as key-of-thm
 use Rattle.driver.proofs.note as note
 use Rattle.driver.proofs.note.Symbol as note-def
 use Rattle.driver.proofs.note.Symbol.{name as #note}
@@ -311,7 +312,7 @@ hear-spec 𝓤 H 𝓜 𝓖 𝓡 =
     (hear-meets 𝓤 H (𝓖 .A) (givenOf 𝓤 H 𝓜 𝓖) (𝓜 .mem) (𝓡 .run) (tablesOf 𝓤 H 𝓜 (tables 𝓤 H 𝓜 𝓡 code.env)) (
       cited 𝓤 H (After 𝓤 H (𝓖 .A) (𝓜 .mem) (𝓡 .run)) 𝓜 𝓡 code.env #after after-def.routine code.calls-splitter·Parser·after (after-thm.met 𝓤 H 𝓜 𝓖 𝓡),
       (
-        cited 𝓤 H (KeyOf 𝓤 H (𝓖 .A) (𝓜 .mem) (𝓡 .run)) 𝓜 𝓡 code.env #key-of key-of-def.routine code.calls-driver·key-of (key-of-thm.met 𝓤 H 𝓜 𝓖 𝓡),
+        cited 𝓤 H (KeyOf 𝓤 H (𝓖 .A) (𝓜 .mem) (𝓡 .run)) 𝓜 𝓡 code.env #key-of key-of-def.routine code.calls-touched·key-of (key-of-thm.met 𝓤 H 𝓜 𝓖 𝓡),
         (
           cited 𝓤 H (Noting 𝓤 H (𝓖 .A) (𝓜 .mem) (𝓡 .run)) 𝓜 𝓡 code.env #note note-def.routine code.calls-driver·note (note-thm.met 𝓤 H 𝓜 𝓖 𝓡),
           cited 𝓤 H (Acting 𝓤 H (𝓖 .A) (𝓜 .mem) (𝓡 .run)) 𝓜 𝓡 code.env #act act-def.routine code.calls-driver·act (act-thm.met 𝓤 H 𝓜 𝓖 𝓡),

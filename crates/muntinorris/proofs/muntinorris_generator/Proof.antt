@@ -1,12 +1,12 @@
 -- `muntinorris::muntinorris_generator` meets its contract: `Copied`'s law at `generator_numbers`, whose contract is all that is known of it.
 -- Assumes nothing.
 use Rattle.queries.specs.Queries.{generatorQuery}
-use Rattle.muntinorris.specs.Numbers.{generatorNumbers}
+use Rattle.numbers.specs.Numbers.{generatorNumbers}
 use Rattle.muntinorris.proofs.Copied.{Query, copied}
-use Rattle.muntinorris.proofs.GeneratorNumbers as O
-use Rattle.muntinorris.proofs.GeneratorNumbers.Laws as O′
-use Rattle.muntinorris.proofs.generator_numbers.Symbol as query-def
-use Rattle.muntinorris.proofs.generator_numbers.Met as query-thm
+use Rattle.numbers.proofs.GeneratorNumbers as O
+use Rattle.numbers.proofs.GeneratorNumbers.Laws as O′
+use Rattle.numbers.proofs.generator_numbers.Symbol as query-def
+use Rattle.numbers.proofs.generator_numbers.Met as query-thm
 use Rattle.muntinorris.proofs.muntinorris_generator.Key.{name as #f}
 use Rattle.muntinorris.proofs.muntinorris_generator.Statement as stated
 use Rattle.muntinorris.proofs.muntinorris_generator.Code as code
@@ -16,4 +16,4 @@ query = record { name = query-def.name; out = O.the-type; laws = O′.the-laws; 
 
 pub muntinorris-generator-spec : {M : Type 1} → stated.statement M
 unfolding code.routine
-muntinorris-generator-spec 𝓤 H 𝓜 𝓖 𝓡 = copied query 𝓤 H 𝓜 𝓖 𝓡 code.env #f (code.unfolded 𝓤 H 𝓜 𝓡) query-def.routine code.calls-muntinorris·generator-numbers (query-thm.met 𝓤 H 𝓜 𝓖 𝓡)
+muntinorris-generator-spec 𝓤 H 𝓜 𝓖 𝓡 = copied query 𝓤 H 𝓜 𝓖 𝓡 code.env #f (code.unfolded 𝓤 H 𝓜 𝓡) query-def.routine code.calls-numbers·generator-numbers (query-thm.met 𝓤 H 𝓜 𝓖 𝓡)

@@ -1,12 +1,12 @@
 -- `muntinorris::muntinorris_mask` meets its contract: `Copied`'s law at `mask_numbers`, whose contract is all that is known of it.
 -- Assumes nothing.
 use Rattle.queries.specs.Queries.{deviceMask}
-use Rattle.muntinorris.specs.Numbers.{maskNumbers}
+use Rattle.numbers.specs.Numbers.{maskNumbers}
 use Rattle.muntinorris.proofs.Copied.{Query, copied}
-use Rattle.muntinorris.proofs.MaskNumbers as O
-use Rattle.muntinorris.proofs.MaskNumbers.Laws as O′
-use Rattle.muntinorris.proofs.mask_numbers.Symbol as query-def
-use Rattle.muntinorris.proofs.mask_numbers.Met as query-thm
+use Rattle.numbers.proofs.MaskNumbers as O
+use Rattle.numbers.proofs.MaskNumbers.Laws as O′
+use Rattle.numbers.proofs.mask_numbers.Symbol as query-def
+use Rattle.numbers.proofs.mask_numbers.Met as query-thm
 use Rattle.muntinorris.proofs.muntinorris_mask.Key.{name as #f}
 use Rattle.muntinorris.proofs.muntinorris_mask.Statement as stated
 use Rattle.muntinorris.proofs.muntinorris_mask.Code as code
@@ -16,4 +16,4 @@ query = record { name = query-def.name; out = O.the-type; laws = O′.the-laws; 
 
 pub muntinorris-mask-spec : {M : Type 1} → stated.statement M
 unfolding code.routine
-muntinorris-mask-spec 𝓤 H 𝓜 𝓖 𝓡 = copied query 𝓤 H 𝓜 𝓖 𝓡 code.env #f (code.unfolded 𝓤 H 𝓜 𝓡) query-def.routine code.calls-muntinorris·mask-numbers (query-thm.met 𝓤 H 𝓜 𝓖 𝓡)
+muntinorris-mask-spec 𝓤 H 𝓜 𝓖 𝓡 = copied query 𝓤 H 𝓜 𝓖 𝓡 code.env #f (code.unfolded 𝓤 H 𝓜 𝓡) query-def.routine code.calls-numbers·mask-numbers (query-thm.met 𝓤 H 𝓜 𝓖 𝓡)

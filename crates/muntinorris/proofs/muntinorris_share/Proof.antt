@@ -1,12 +1,12 @@
 -- `muntinorris::muntinorris_share` meets its contract: `Copied`'s law at `share_numbers`, whose contract is all that is known of it.
 -- Assumes nothing.
 use Rattle.queries.specs.Queries.{deviceShare}
-use Rattle.muntinorris.specs.Numbers.{shareNumbers}
+use Rattle.numbers.specs.Numbers.{shareNumbers}
 use Rattle.muntinorris.proofs.Copied.{Query, copied}
-use Rattle.muntinorris.proofs.ShareNumbers as O
-use Rattle.muntinorris.proofs.ShareNumbers.Laws as O′
-use Rattle.muntinorris.proofs.share_numbers.Symbol as query-def
-use Rattle.muntinorris.proofs.share_numbers.Met as query-thm
+use Rattle.numbers.proofs.ShareNumbers as O
+use Rattle.numbers.proofs.ShareNumbers.Laws as O′
+use Rattle.numbers.proofs.share_numbers.Symbol as query-def
+use Rattle.numbers.proofs.share_numbers.Met as query-thm
 use Rattle.muntinorris.proofs.muntinorris_share.Key.{name as #f}
 use Rattle.muntinorris.proofs.muntinorris_share.Statement as stated
 use Rattle.muntinorris.proofs.muntinorris_share.Code as code
@@ -16,4 +16,4 @@ query = record { name = query-def.name; out = O.the-type; laws = O′.the-laws; 
 
 pub muntinorris-share-spec : {M : Type 1} → stated.statement M
 unfolding code.routine
-muntinorris-share-spec 𝓤 H 𝓜 𝓖 𝓡 = copied query 𝓤 H 𝓜 𝓖 𝓡 code.env #f (code.unfolded 𝓤 H 𝓜 𝓡) query-def.routine code.calls-muntinorris·share-numbers (query-thm.met 𝓤 H 𝓜 𝓖 𝓡)
+muntinorris-share-spec 𝓤 H 𝓜 𝓖 𝓡 = copied query 𝓤 H 𝓜 𝓖 𝓡 code.env #f (code.unfolded 𝓤 H 𝓜 𝓡) query-def.routine code.calls-numbers·share-numbers (query-thm.met 𝓤 H 𝓜 𝓖 𝓡)

@@ -45,24 +45,24 @@ use Rattle.playing.specs.declared.Answer.{Answer}
 use Rattle.device.specs.declared.Device.{Device}
 use Rattle.device.specs.declared.Output.{Output}
 use Rattle.device.specs.Device.{started}
-use Rattle.muntinorris.specs.declared.AnswerNumbers.{AnswerNumbers}
-use Rattle.muntinorris.specs.Numbers.{numbersOf}
+use Rattle.numbers.specs.declared.AnswerNumbers.{AnswerNumbers}
+use Rattle.numbers.specs.Numbers.{numbersOf}
 use Rattle.device.proofs.Device as D
 use Rattle.device.proofs.Device.Laws as D′
 use Rattle.device.proofs.Output as S
 use Rattle.device.proofs.Output.Laws as S′
 use Rattle.playing.proofs.Answer as N
 use Rattle.playing.proofs.Answer.Laws as N′
-use Rattle.muntinorris.proofs.AnswerNumbers as O
-use Rattle.muntinorris.proofs.AnswerNumbers.Laws as O′
+use Rattle.numbers.proofs.AnswerNumbers as O
+use Rattle.numbers.proofs.AnswerNumbers.Laws as O′
 use Rattle.device.proofs.start as start
 use Rattle.device.proofs.start.Symbol as start-def
 use Rattle.device.proofs.start.Symbol.{name as #start}
 use Rattle.device.proofs.start.Met as start-thm
-use Rattle.muntinorris.proofs.answer_numbers as numbers
-use Rattle.muntinorris.proofs.answer_numbers.Symbol as numbers-def
-use Rattle.muntinorris.proofs.answer_numbers.Symbol.{name as #numbers}
-use Rattle.muntinorris.proofs.answer_numbers.Met as numbers-thm
+use Rattle.numbers.proofs.answer_numbers as numbers
+use Rattle.numbers.proofs.answer_numbers.Symbol as numbers-def
+use Rattle.numbers.proofs.answer_numbers.Symbol.{name as #numbers}
+use Rattle.numbers.proofs.answer_numbers.Met as numbers-thm
 use Rattle.muntinorris.proofs.Numbering.{Numbering, numbers-of, to-numbers, goes-numbers}
 use Rattle.muntinorris.proofs.muntinorris_start.Key.{name as #f}
 use Rattle.muntinorris.proofs.muntinorris_start as f
@@ -170,4 +170,4 @@ muntinorris-start-spec 𝓤 H 𝓜 𝓖 𝓡 =
     (tables 𝓤 H 𝓜 𝓡 code.env .C) (tables 𝓤 H 𝓜 𝓡 code.env .Λ) #f code.function (code.unfolded 𝓤 H 𝓜 𝓡)
     (f-meets 𝓤 H (𝓖 .A) (givenOf 𝓤 H 𝓜 𝓖) (𝓜 .mem) (𝓡 .run) (tablesOf 𝓤 H 𝓜 (tables 𝓤 H 𝓜 𝓡 code.env))
     (cited 𝓤 H (Start 𝓤 H (𝓖 .A) (𝓜 .mem) (𝓡 .run)) 𝓜 𝓡 code.env #start start-def.routine code.calls-device·start (start-thm.met 𝓤 H 𝓜 𝓖 𝓡))
-    (cited 𝓤 H (Numbering 𝓤 H (𝓖 .A) (𝓜 .mem) (𝓡 .run)) 𝓜 𝓡 code.env #numbers numbers-def.routine code.calls-muntinorris·answer-numbers (numbers-thm.met 𝓤 H 𝓜 𝓖 𝓡)))
+    (cited 𝓤 H (Numbering 𝓤 H (𝓖 .A) (𝓜 .mem) (𝓡 .run)) 𝓜 𝓡 code.env #numbers numbers-def.routine code.calls-numbers·answer-numbers (numbers-thm.met 𝓤 H 𝓜 𝓖 𝓡)))

@@ -1,9 +1,9 @@
--- `muntinorris::generator_numbers` meets its contract, by what the query answers.
+-- `numbers::generator_numbers` meets its contract, by what the query answers.
 -- Assumes nothing.
 use mathlib.Core.Path.{sym, _∙_}
 use borrow.Author.Needs.{needs}
-use Rattle.muntinorris.proofs.generator_numbers.Statement.{statement}
-use Rattle.muntinorris.proofs.generator_numbers.Tie as tie
+use Rattle.numbers.proofs.generator_numbers.Statement.{statement}
+use Rattle.numbers.proofs.generator_numbers.Tie as tie
 
 generator-query-requires : tie.Need-generator-query-requires
 generator-query-requires c κs = search needs

@@ -1,9 +1,9 @@
--- `muntinorris::mask_numbers` meets its contract, by what the query answers.
+-- `numbers::mask_numbers` meets its contract, by what the query answers.
 -- Assumes nothing.
 use mathlib.Core.Path.{sym, _∙_}
 use borrow.Author.Needs.{needs}
-use Rattle.muntinorris.proofs.mask_numbers.Statement.{statement}
-use Rattle.muntinorris.proofs.mask_numbers.Tie as tie
+use Rattle.numbers.proofs.mask_numbers.Statement.{statement}
+use Rattle.numbers.proofs.mask_numbers.Tie as tie
 
 mask-query-requires : tie.Need-mask-query-requires
 mask-query-requires c κs = search needs

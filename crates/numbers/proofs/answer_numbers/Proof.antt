@@ -1,8 +1,8 @@
--- `muntinorris::answer_numbers` meets its contract, case by case.
+-- `numbers::answer_numbers` meets its contract, case by case.
 -- Assumes nothing.
 use borrow.Author.Needs.{needs}
-use Rattle.muntinorris.proofs.answer_numbers.Statement.{statement}
-use Rattle.muntinorris.proofs.answer_numbers.Tie as tie
+use Rattle.numbers.proofs.answer_numbers.Statement.{statement}
+use Rattle.numbers.proofs.answer_numbers.Tie as tie
 
 enum-told : tie.Need-enum-told
 enum-told c = search needs

@@ -1,9 +1,9 @@
--- `muntinorris::share_numbers` meets its contract, by what the query answers.
+-- `numbers::share_numbers` meets its contract, by what the query answers.
 -- Assumes nothing.
 use mathlib.Core.Path.{sym, _∙_}
 use borrow.Author.Needs.{needs}
-use Rattle.muntinorris.proofs.share_numbers.Statement.{statement}
-use Rattle.muntinorris.proofs.share_numbers.Tie as tie
+use Rattle.numbers.proofs.share_numbers.Statement.{statement}
+use Rattle.numbers.proofs.share_numbers.Tie as tie
 
 share-query-requires : tie.Need-share-query-requires
 share-query-requires c κs = search needs

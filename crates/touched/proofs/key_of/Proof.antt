@@ -1,11 +1,8 @@
--- `driver::key_in` meets its contract, case by case.
+-- `touched::key_of` meets its contract, case by case.
 -- Assumes nothing.
 use borrow.Author.Needs.{needs}
-use Rattle.driver.proofs.key_in.Statement.{statement}
-use Rattle.driver.proofs.key_in.Tie as tie
-
-enum-known-m : tie.Need-enum-known-m
-enum-known-m c = search needs
+use Rattle.touched.proofs.key_of.Statement.{statement}
+use Rattle.touched.proofs.key_of.Tie as tie
 
 enum-told : tie.Need-enum-told
 enum-told c = search needs
@@ -25,20 +22,23 @@ enum-told-3 c = search needs
 no-key-requires-3 : tie.Need-no-key-requires-3
 no-key-requires-3 c κs = search needs
 
+enum-known-c : tie.Need-enum-known-c
+enum-known-c c = search needs
+
+read-requires : tie.Need-read-requires
+read-requires c κs = search needs
+
+key-in-requires : tie.Need-key-in-requires
+key-in-requires c κs = search needs
+
 enum-told-4 : tie.Need-enum-told-4
 enum-told-4 c = search needs
 
 no-key-requires-4 : tie.Need-no-key-requires-4
 no-key-requires-4 c κs = search needs
 
-enum-told-5 : tie.Need-enum-told-5
-enum-told-5 c = search needs
-
-no-key-requires-5 : tie.Need-no-key-requires-5
-no-key-requires-5 c κs = search needs
-
 returns : tie.Need-returns
-returns c = simp (c .before .m .given .1)
+returns c = search needs
 
 returns-2 : tie.Need-returns-2
 returns-2 c = search needs
@@ -47,32 +47,28 @@ returns-3 : tie.Need-returns-3
 returns-3 c = search needs
 
 returns-4 : tie.Need-returns-4
-returns-4 c = search needs
+returns-4 c = simp (c .before .before .before .c .given .1, c .key-in .ensures, c .before .read .ensures)
 
 returns-5 : tie.Need-returns-5
 returns-5 c = search needs
 
-returns-6 : tie.Need-returns-6
-returns-6 c = search needs
-
-pub key-in-spec : {M : Type 1} → statement M
-key-in-spec =
+pub key-of-spec : {M : Type 1} → statement M
+key-of-spec =
     tie.close
     (tie.spec
-    enum-known-m
     enum-told
     no-key-requires
     enum-told-2
     no-key-requires-2
     enum-told-3
     no-key-requires-3
+    enum-known-c
+    read-requires
+    key-in-requires
     enum-told-4
     no-key-requires-4
-    enum-told-5
-    no-key-requires-5
     returns
     returns-2
     returns-3
     returns-4
-    returns-5
-    returns-6)
+    returns-5)

@@ -1,8 +1,8 @@
--- `muntinorris::was_number` meets its contract, case by case.
+-- `numbers::was_number` meets its contract, case by case.
 -- Assumes nothing.
 use borrow.Author.Needs.{needs}
-use Rattle.muntinorris.proofs.was_number.Statement.{statement}
-use Rattle.muntinorris.proofs.was_number.Tie as tie
+use Rattle.numbers.proofs.was_number.Statement.{statement}
+use Rattle.numbers.proofs.was_number.Tie as tie
 
 enum-told : tie.Need-enum-told
 enum-told c = search needs

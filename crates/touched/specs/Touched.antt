@@ -1,20 +1,13 @@
 -- What a byte touches of the record, by what it completed: most touch the parser alone, and a note-on the generators.
-use Prim.Native.Nat.{ℕ}
 use mathlib.Core.Bool.{Bool, true, false}
-use Rattle.splitter.specs.declared.Parser.{Parser}
 use Rattle.splitter.specs.declared.Completed.{Completed}
 use Rattle.splitter.specs.declared.Completed.the-variants as completed
-use Rattle.splitter.specs.Split.{split}
 use Rattle.message.specs.declared.Message.{Message}
 use Rattle.message.specs.declared.Message.the-variants as message
 use Rattle.message.specs.Message.{decode}
 use Rattle.playing.specs.declared.Answer.{Answer}
 use Rattle.playing.specs.declared.Answer.the-variants as answer
-use Rattle.playing.specs.Playing.{playNoteOn}
-use Rattle.device.specs.declared.Device.{Device}
-use Rattle.device.specs.declared.Output.{Output}
-use Rattle.device.specs.Device.{outputOf, heard}
-use Rattle.driver.specs.declared.Key.{Key}
+use Rattle.touched.specs.declared.Key.{Key}
 
 -- by "Bytes" of document 01 these complete nothing, or are numbers 3 and 4
 abbrev pub isQuiet : Completed → Bool
@@ -50,15 +43,3 @@ keyOf completed.Stray = noKey
 keyOf completed.Cut = noKey
 keyOf (completed.Message s a b) = keyIn (decode s a b)
 keyOf completed.SysEx = noKey
-
--- a note-on, which the parser has left behind
-unfoldable pub noteHeard : Device → ℕ → ℕ → Output
-noteHeard d c k = outputOf (d .parser) (playNoteOn (d .instrument) c k)
-
--- anything that a byte completed where it found parser p
-unfoldable pub acted : Device → Parser → Completed → Output
-acted d p k = outputOf (d .parser) (heard (d .instrument) p k)
-
--- byte b, which completed k
-unfoldable pub heardBy : Device → ℕ → Completed → Output
-heardBy d b k = outputOf (split (d .parser) b .parser) (heard (d .instrument) (d .parser) k)

@@ -15,10 +15,10 @@ use Rattle.shares.specs.declared.MaskAnswer.the-variants.{IsMasked, IsUnmasked,
 use Rattle.shares.specs.declared.ShareAnswer.{ShareAnswer}
 use Rattle.shares.specs.declared.ShareAnswer.the-variants.{ShareIs, NotAChannel}
 use Rattle.shares.specs.Shares.{maskNumber, shareNumber}
-use Rattle.muntinorris.specs.declared.AnswerNumbers.{AnswerNumbers}
-use Rattle.muntinorris.specs.declared.GeneratorNumbers.{GeneratorNumbers}
-use Rattle.muntinorris.specs.declared.MaskNumbers.{MaskNumbers}
-use Rattle.muntinorris.specs.declared.ShareNumbers.{ShareNumbers}
+use Rattle.numbers.specs.declared.AnswerNumbers.{AnswerNumbers}
+use Rattle.numbers.specs.declared.GeneratorNumbers.{GeneratorNumbers}
+use Rattle.numbers.specs.declared.MaskNumbers.{MaskNumbers}
+use Rattle.numbers.specs.declared.ShareNumbers.{ShareNumbers}
 
 -- "what the generator was: idle, release or stolen"
 abbrev pub wasNumber : Was → ℕ

@@ -1,0 +1,154 @@
+// The answers in plain numbers, as C and Rust have them (include/muntinorris.h), by value, for every answer and every record. Assumes nothing.
+ghost use mathlib.Core.Path.{_≡_};
+ghost use Rattle.queries.specs.Queries.{generatorQuery, deviceMask, deviceShare};
+ghost use Rattle.numbers.specs.Numbers.{wasNumber, numbersOf, generatorNumbers, maskNumbers, shareNumbers};
+use allocation::Was;
+use device::Device;
+use playing::Answer;
+use queries::GeneratorAnswer;
+use shares::MaskAnswer;
+use shares::ShareAnswer;
+
+// An answer: what (0 none, 1 done, 2 a note, 3 a number), the number, channel and key, the generator and what it was (0 idle, 1 release, 2 stolen). A field without meaning is 0.
+#[repr(C)]
+pub struct AnswerNumbers {
+    pub what: u8,
+    pub number: u8,
+    pub channel: u8,
+    pub key: u8,
+    pub generator: u8,
+    pub was: u8,
+}
+
+// A generator, or number 12 and zeros.
+#[repr(C)]
+pub struct GeneratorNumbers {
+    pub number: u8,
+    pub state: u8,
+    pub channel: u8,
+    pub key: u8,
+}
+
+// Whether a channel is masked, 1 or 0, or number 14 and 0.
+#[repr(C)]
+pub struct MaskNumbers {
+    pub number: u8,
+    pub masked: u8,
+}
+
+// The share of a channel, or number 14 and 0.
+#[repr(C)]
+pub struct ShareNumbers {
+    pub number: u8,
+    pub share: u8,
+}
+
+fn was_number(w: Was) -> u8
+    ensures { λ r. ⌜ r ≡ wasNumber w ⌝ }
+{
+    match w {
+        Was::Idle => 0,
+        Was::Release => 1,
+        Was::Stolen => 2,
+    }
+}
+
+pub fn answer_numbers(a: Answer) -> AnswerNumbers
+    ensures { λ r. ⌜ r ≡ numbersOf a ⌝ }
+{
+    match a {
+        Answer::Nothing => AnswerNumbers {
+            what: 0,
+            number: 0,
+            channel: 0,
+            key: 0,
+            generator: 0,
+            was: 0,
+        },
+        Answer::Done => AnswerNumbers {
+            what: 1,
+            number: 0,
+            channel: 0,
+            key: 0,
+            generator: 0,
+            was: 0,
+        },
+        Answer::Note(channel, key, generator, was) => AnswerNumbers {
+            what: 2,
+            number: 0,
+            channel: channel,
+            key: key,
+            generator: generator,
+            was: was_number(was),
+        },
+        Answer::NoNote(number, channel, key) => AnswerNumbers {
+            what: 3,
+            number: number,
+            channel: channel,
+            key: key,
+            generator: 0,
+            was: 0,
+        },
+        Answer::Number(number) => AnswerNumbers {
+            what: 3,
+            number: number,
+            channel: 0,
+            key: 0,
+            generator: 0,
+            was: 0,
+        },
+    }
+}
+
+pub fn generator_numbers(d: Device, g: u8) -> GeneratorNumbers
+    ensures { λ r. ⌜ r ≡ generatorNumbers (generatorQuery d g) ⌝ }
+{
+    match queries::generator_query(d, g) {
+        GeneratorAnswer::GeneratorIs(state, channel, key) => GeneratorNumbers {
+            number: 0,
+            state: state,
+            channel: channel,
+            key: key,
+        },
+        GeneratorAnswer::NoGenerator => GeneratorNumbers {
+            number: 12,
+            state: 0,
+            channel: 0,
+            key: 0,
+        },
+    }
+}
+
+pub fn mask_numbers(d: Device, channel: u8) -> MaskNumbers
+    ensures { λ r. ⌜ r ≡ maskNumbers (deviceMask d channel) ⌝ }
+{
+    match queries::mask_query(d, channel) {
+        MaskAnswer::IsMasked => MaskNumbers {
+            number: 0,
+            masked: 1,
+        },
+        MaskAnswer::IsUnmasked => MaskNumbers {
+            number: 0,
+            masked: 0,
+        },
+        MaskAnswer::NoSuchChannel => MaskNumbers {
+            number: 14,
+            masked: 0,
+        },
+    }
+}
+
+pub fn share_numbers(d: Device, channel: u8) -> ShareNumbers
+    ensures { λ r. ⌜ r ≡ shareNumbers (deviceShare d channel) ⌝ }
+{
+    match queries::share_query(d, channel) {
+        ShareAnswer::ShareIs(share) => ShareNumbers {
+            number: 0,
+            share: share,
+        },
+        ShareAnswer::NotAChannel => ShareNumbers {
+            number: 14,
+            share: 0,
+        },
+    }
+}

@@ -1,0 +1,2 @@
+-- What a byte touches.
+pub mod Touched
