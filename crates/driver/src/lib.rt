@@ -1,9 +1,9 @@
-// The driver's side (document 01, "The device record"): it lends its one device record and finds it updated after the call. Thin functions over the same
-// calls by value, for every value of the record. Most bytes complete nothing and touch the parser alone, so the rest of the record is not copied for
-// them. Assumes nothing.
+// The driver's side (document 01, "The device record"): it lends its one device record and finds it updated after the call. A MIDI byte, as the call by value
+// takes it, for every value of the record. Most bytes complete nothing and touch the parser alone, so the rest of the record is not copied for them. The other
+// event, a report, is in crate `driver_reports`. Assumes nothing.
 ghost use mathlib.Core.Path.{_≡_};
 ghost use Rattle.events.specs.Events.{taken};
-ghost use Rattle.events.specs.declared.Event.the-variants.{Byte, Report};
+ghost use Rattle.events.specs.declared.Event.the-variants.{Byte};
 ghost use Rattle.driver.specs.Heard.{noteHeard, acted, heardBy};
 use device::Device;
 use playing::Answer;
@@ -51,13 +51,4 @@ pub fn byte(d: &mut Device, b: u8) -> Answer
         return touched::quiet_answer(c);
     }
     hear(d, b, c)
-}
-
-// The tone generator reports the end of generator g.
-pub fn report(d: &mut Device, g: u8) -> Answer
-    ensures { λ r. ⌜ (r ≡ taken (now (d .entry)) (Report g) .answer) × (now (d .exit) ≡ taken (now (d .entry)) (Report g) .device) ⌝ }
-{
-    let reply = reports::ended(d.instrument, g);
-    d.instrument = reply.instrument;
-    reply.answer
 }

@@ -35,7 +35,7 @@ pub extern "C" fn muntinorris_byte(d: &mut Device, byte: u8) -> AnswerNumbers
 pub extern "C" fn muntinorris_report(d: &mut Device, generator: u8) -> AnswerNumbers
     ensures { λ r. ⌜ (r ≡ numbersOf (taken (now (d .entry)) (Report generator) .answer)) × (now (d .exit) ≡ taken (now (d .entry)) (Report generator) .device) ⌝ }
 {
-    numbers::answer_numbers(driver::report(d, generator))
+    numbers::answer_numbers(driver_reports::report(d, generator))
 }
 
 // The state, channel and key of a generator.

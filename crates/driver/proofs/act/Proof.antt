@@ -47,7 +47,7 @@ use Rattle.playing.specs.declared.Reply.{Reply}
 use Rattle.device.specs.declared.Device.{Device}
 use Rattle.device.specs.Device as definition
 use Rattle.driver.specs.Heard.{acted}
-use Rattle.driver.proofs.Lent.{device-of, dev-val, par-val, ins-val, head, made}
+use Rattle.lent.proofs.Lent.{device-of, dev-val, par-val, ins-val, head, made}
 use Rattle.device.proofs.Device as D
 use Rattle.device.proofs.Device.Laws as D′
 use Rattle.splitter.proofs.Parser as P

@@ -56,7 +56,7 @@ use Rattle.events.specs.Events.{taken}
 use Rattle.events.specs.declared.Event.the-variants.{Byte}
 use Rattle.touched.specs.Touched.{isQuiet, quietAnswer}
 use Rattle.driver.specs.Heard.{heardBy}
-use Rattle.driver.proofs.Lent.{device-of, dev-val, par-val, head, spelled, made, holds, go-on}
+use Rattle.lent.proofs.Lent.{device-of, dev-val, par-val, head, spelled, made, holds, go-on}
 use Rattle.device.proofs.Device as D
 use Rattle.device.proofs.Device.Laws as D′
 use Rattle.splitter.proofs.Parser as P

@@ -59,7 +59,7 @@ use Rattle.device.specs.Device as definition
 use Rattle.touched.specs.declared.Key.{Key}
 use Rattle.touched.specs.Touched.{keyOf, keyIn}
 use Rattle.driver.specs.Heard.{noteHeard, acted, heardBy}
-use Rattle.driver.proofs.Lent.{device-of, dev-val, par-val, head, spelled, made, holds, go-on}
+use Rattle.lent.proofs.Lent.{device-of, dev-val, par-val, head, spelled, made, holds, go-on}
 use Rattle.device.proofs.Device as D
 use Rattle.device.proofs.Device.Laws as D′
 use Rattle.splitter.proofs.Parser as P

@@ -48,7 +48,7 @@ use Rattle.playing.specs.declared.Sounded.{Sounded}
 use Rattle.playing.specs.Playing.{playNoteOn, soundedOf}
 use Rattle.device.specs.declared.Device.{Device}
 use Rattle.driver.specs.Heard.{noteHeard}
-use Rattle.driver.proofs.Lent.{device-of, dev-val, ins-val, head, made-note}
+use Rattle.lent.proofs.Lent.{device-of, dev-val, ins-val, head, made-note}
 use Rattle.device.proofs.Device as D
 use Rattle.device.proofs.Device.Laws as D′
 use Rattle.generators.proofs.Generators as G

@@ -1,4 +1,4 @@
--- `driver::report` meets its contract: a walk of its MIR, by hand. The borrow is opened, the instrument is read into a local, `ended` is called on that copy, its
+-- `driver_reports::report` meets its contract: a walk of its MIR, by hand. The borrow is opened, the instrument is read into a local, `ended` is called on that copy, its
 -- instrument is stored in the record's place, and the borrow is closed at the record so made. All that the proof knows of `ended` is that it meets its contract.
 -- Assumes nothing.
 use mathlib.Core.Path.{_≡_, refl, ap}
@@ -48,7 +48,7 @@ use Rattle.playing.specs.declared.Reply.{Reply}
 use Rattle.reports.specs.Reports.{reported}
 use Rattle.events.specs.Events.{reportTaken, taken}
 use Rattle.events.specs.declared.Event.the-variants.{Report}
-use Rattle.driver.proofs.Lent.{device-of, dev-val, ins-val, head, made}
+use Rattle.lent.proofs.Lent.{device-of, dev-val, ins-val, head, made}
 use Rattle.device.proofs.Device as D
 use Rattle.device.proofs.Device.Laws as D′
 use Rattle.instrument.proofs.Instrument as I
@@ -61,10 +61,10 @@ use Rattle.reports.proofs.ended as ended
 use Rattle.reports.proofs.ended.Symbol as ended-def
 use Rattle.reports.proofs.ended.Symbol.{name as #reports·ended}
 use Rattle.reports.proofs.ended.Met as ended-thm
-use Rattle.driver.proofs.report.Key.{name as #driver·report}
-use Rattle.driver.proofs.report as report
-use Rattle.driver.proofs.report.Statement as stated
-use Rattle.driver.proofs.report.Code as code
+use Rattle.driver_reports.proofs.report.Key.{name as #report}
+use Rattle.driver_reports.proofs.report as report
+use Rattle.driver_reports.proofs.report.Statement as stated
+use Rattle.driver_reports.proofs.report.Code as code
 
 abbrev Arg : Type 0
 Arg = RefT Device × (ℕ × Unit {0})
@@ -161,6 +161,6 @@ pub report-spec : {M : Type 1} → stated.statement M
 unfolding code.routine tablesOf
 report-spec 𝓤 H 𝓜 𝓖 𝓡 =
     entered 𝓤 H (tripleOf 𝓤 H (𝓖 .A) report.signature (report.spec 𝓤 H (𝓖 .A) (𝓜 .mem) (𝓡 .run)))
-    (tables 𝓤 H 𝓜 𝓡 code.env .C) (tables 𝓤 H 𝓜 𝓡 code.env .Λ) #driver·report code.function (code.unfolded 𝓤 H 𝓜 𝓡)
+    (tables 𝓤 H 𝓜 𝓡 code.env .C) (tables 𝓤 H 𝓜 𝓡 code.env .Λ) #report code.function (code.unfolded 𝓤 H 𝓜 𝓡)
     (report-meets 𝓤 H (𝓖 .A) (givenOf 𝓤 H 𝓜 𝓖) (𝓜 .mem) (𝓡 .run) (tablesOf 𝓤 H 𝓜 (tables 𝓤 H 𝓜 𝓡 code.env))
     (cited 𝓤 H (Ended 𝓤 H (𝓖 .A) (𝓜 .mem) (𝓡 .run)) 𝓜 𝓡 code.env #reports·ended ended-def.routine code.calls-reports·ended (ended-thm.met 𝓤 H 𝓜 𝓖 𝓡)))

@@ -1,0 +1,16 @@
+// The driver's side of a report (document 01, "Other messages"): the driver lends its one device record and finds it updated after the call, as the call by value
+// updates it, for every value of the record. Assumes nothing.
+ghost use mathlib.Core.Path.{_≡_};
+ghost use Rattle.events.specs.Events.{taken};
+ghost use Rattle.events.specs.declared.Event.the-variants.{Report};
+use device::Device;
+use playing::Answer;
+
+// The tone generator reports the end of generator g.
+pub fn report(d: &mut Device, g: u8) -> Answer
+    ensures { λ r. ⌜ (r ≡ taken (now (d .entry)) (Report g) .answer) × (now (d .exit) ≡ taken (now (d .entry)) (Report g) .device) ⌝ }
+{
+    let reply = reports::ended(d.instrument, g);
+    d.instrument = reply.instrument;
+    reply.answer
+}
