@@ -1,0 +1,117 @@
+-- Demand 3 bites. First its words, for any book and answer: what keeps within a share, what ends a run, what is served, robbed and lost is no less than the paper
+-- says. Then four short lists, where `demand-3` alone, not the device, yields what a player hears. A claim emptied behind its name would not give these facts.
+-- Assumes nothing.
+use mathlib.Core.Path.{_≡_, refl, sym, ap, _∙_}
+use mathlib.Core.Bool.{Bool, true, false, not, _&&_, _||_}
+use mathlib.Core.List.{List, [], _∷_, _++_}
+use Prim.Native.Nat.{ℕ, _≤_}
+use native.Mathlib.Omega.{arith}
+use borrow.Author.Tests.{eqb-true}
+use lib.Dec.{eqb}
+use Rattle.loops.specs.Passes.{upTo, total, filterBy, firstOf, padded}
+use Rattle.splitter.specs.Split.{begun, stored, oneDataByte, completed, dataByte, opened, ended, statusByte, split}
+use Rattle.message.specs.declared.Message.{Message}
+use Rattle.message.specs.Message.{decode}
+use Rattle.table.specs.declared.Entry.{Entry}
+use Rattle.table.specs.Table.{tableOf, startTable}
+use Rattle.shares.specs.declared.Share.the-variants.{Units}
+use Rattle.shares.specs.Shares.{sharesFrom, lookup, shareOf, isMasked}
+use Rattle.drums.specs.Drums.{groupOf, excludes}
+use Rattle.ages.specs.Ages.{agesOf, newest}
+use Rattle.generators.specs.Generators.{at, isIdle, assigned, silent}
+use Rattle.changes.specs.Changes.{changes, stateAfter, changed}
+use Rattle.silence.specs.Silence.{isAmong, leaves, silenced}
+use Rattle.choice.specs.Choice.{lowestIdle, wanted, oldest, busyCount}
+use Rattle.stealing.specs.Stealing.{overShare, stealFrom}
+use Rattle.allocation.specs.declared.Was.{Was}
+use Rattle.allocation.specs.declared.Was.the-variants.{Stolen}
+use Rattle.allocation.specs.Allocation.{cleared, step5, choice, noteOn}
+use Rattle.instrument.specs.Instrument.{fresh, isRhythm}
+use Rattle.playing.specs.declared.Answer.{Answer}
+use Rattle.playing.specs.declared.Answer.the-variants.{Nothing, Done, Note, NoNote, Number}
+use Rattle.playing.specs.Playing.{playNoteOn, played}
+use Rattle.reports.specs.Reports.{reported}
+use Rattle.device.specs.Device.{started, heard, byteTaken}
+use Rattle.events.specs.declared.Event.{Event}
+use Rattle.events.specs.declared.Event.the-variants.{Byte, Report}
+use Rattle.events.specs.Events.{taken, reportTaken}
+use Rattle.demand3.specs.Demand3.{Book, isNote, isOf, remaining, keepMessage, Heard, nothing, message, newTable, reset, report, keep, IsWithin, stolenNote, isLoss, isServed, Safe, IsInRun, System, after, IsExact, Always, Both, Live, begin}
+use Rattle.demand3.specs.Demand3 as of-book
+use Rattle.demand3.proofs.Bytes.{demand-3}
+
+-- ---- the words, whatever the device
+
+clash : {A : Type 0} → _≡_ {A = Bool} false true → A
+clash e = absurd (let z : _≡_ {A = ℕ} 0 1 = cc in omega arith)
+
+-- all of the share may be used
+pub whole-share : (u n : ℕ) → n ≤ u → IsWithin (Units u) n
+whole-share u n h = h
+
+-- an accepted MIP message and an accepted reset end a run, and nothing else does
+pub in-run : (h : Heard) → ((t : List Entry) → h ≡ newTable t → ⊥) → (h ≡ reset → ⊥) → IsInRun h
+in-run nothing t r = tt
+in-run (message m) t r = tt
+in-run (newTable x) t r = absurd (t x refl)
+in-run reset t r = absurd (r refl)
+in-run (report g) t r = tt
+
+-- who is served is answered note, with channel and key
+pub served-note : (c k : ℕ) (a : Answer) → isServed c k a ≡ true → (g : ℕ) × ((w : Was) × (a ≡ Note c k g w))
+served-note c k (Note x y g w) e = go (eqb x c) refl (eqb y k) refl e
+  where
+    go : (p : Bool) → eqb x c ≡ p → (q : Bool) → eqb y k ≡ q → p && q ≡ true → (h : ℕ) × ((v : Was) × (Note x y g w ≡ Note c k h v))
+    go true p true q e = (g, (w, rw (eqb-true x c p, eqb-true y k q)))
+    go true p false q e = clash e
+    go false p q r e = clash e
+served-note c k Nothing e = clash e
+served-note c k Done e = clash e
+served-note c k (NoNote n x y) e = clash e
+served-note c k (Number n) e = clash e
+
+-- where a note of channel c still stands, no other may be put
+pub robbed-unsafe : (b : Book) (c d k g : ℕ) (w : Was) → isOf c (remaining b d k g) ≡ true → Safe c b (Note d k g w) d k → ⊥
+robbed-unsafe b c d k g w e s = clash (sym (s .1) ∙ e)
+
+-- the losses: "answers stolen"
+pub stolen-lost : (b : Book) (c k x y g : ℕ) → isLoss b c k (Note x y g Stolen) ≡ true
+stolen-lost b c k x y g = refl
+
+-- "makes a note leave as stolen", whatever the answer calls it
+pub leaving-lost : (b : Book) (c k x y g : ℕ) (w : Was) → isNote (remaining b c k g) ≡ true → isLoss b c k (Note x y g w) ≡ true
+leaving-lost b c k x y g w e = go (of-book.isStolen w) e
+  where
+    go : (p : Bool) → isNote (remaining b c k g) ≡ true → p || isNote (remaining b c k g) ≡ true
+    go true e = refl
+    go false e = e
+
+-- on an unmasked channel every answer but note
+pub turned-lost : (b : Book) (c k : ℕ) (a : Answer) → isMasked (of-book.shareOf b c) ≡ false → ((x y g : ℕ) (w : Was) → a ≡ Note x y g w → ⊥) → isLoss b c k a ≡ true
+turned-lost b c k (Note x y g w) u n = absurd (n x y g w refl)
+turned-lost b c k Nothing u n = ap not u
+turned-lost b c k Done u n = ap not u
+turned-lost b c k (NoNote m x y) u n = ap not u
+turned-lost b c k (Number m) u n = ap not u
+
+-- ---- P 1, and channel 10 has it: a drum after a report is served
+
+abbrev pub drum : List Event
+drum = Report 0 ∷ Byte 0x99 ∷ Byte 36 ∷ Byte 64 ∷ []
+
+pub drum-served : isServed 10 36 (Live .answer (after Live (begin 1 0) (Report 0 ∷ Byte 0x99 ∷ Byte 36 ∷ [])) (Byte 64)) ≡ true
+unfolding total begun stored oneDataByte completed dataByte opened ended statusByte split decode sharesFrom lookup silent fresh reported started heard byteTaken reportTaken taken keepMessage keep after
+drum-served = demand-3 1 0 drum .shared [] drum [] refl (tt, (tt, (tt, (tt, tt)))) 10 (omega arith, (tt, (tt, (tt, ((λ e. omega arith), tt))))) .1 .1 .1 .0 .0 refl
+
+-- ---- P 1, one note held on channel 1: a drum steals it, which is fair since every generator had a note that the drum doesn't end
+
+abbrev pub one-note : List Event
+one-note = Byte 0x90 ∷ Byte 60 ∷ Byte 64 ∷ []
+
+-- the book and the answer at the last byte
+abbrev theft : Both
+theft = after Live (begin 1 0) (one-note ++ (Byte 0x99 ∷ Byte 36 ∷ []))
+
+-- the theft does happen
+pub theft-answer : Live .answer theft (Byte 64) ≡ Note 10 36 0 Stolen
+unfolding upTo total filterBy firstOf padded begun stored oneDataByte completed dataByte opened ended statusByte split decode tableOf startTable sharesFrom lookup shareOf groupOf excludes agesOf newest assigned silent changes stateAfter changed isAmong leaves silenced lowestIdle wanted oldest busyCount overShare stealFrom cleared step5 choice noteOn fresh isRhythm playNoteOn played started heard byteTaken taken after
+theft-answer = refl
