@@ -35,7 +35,7 @@ use Rattle.device.specs.Device.{started, heard, byteTaken}
 use Rattle.events.specs.declared.Event.{Event}
 use Rattle.events.specs.declared.Event.the-variants.{Byte, Report}
 use Rattle.events.specs.Events.{taken, reportTaken}
-use Rattle.demand3.specs.Demand3.{Book, isNote, isOf, remaining, keepMessage, Heard, nothing, message, newTable, reset, report, keep, IsWithin, stolenNote, isLoss, isServed, Safe, IsInRun, System, after, IsExact, Always, Both, Live, begin}
+use Rattle.demand3.specs.Demand3.{Book, isNote, isOf, isEnded, remaining, keepMessage, Heard, nothing, message, newTable, reset, report, keep, notesOn, IsWithin, stolenNote, isLoss, isServed, Safe, IsInRun, System, after, IsExact, Always, Both, Live, begin}
 use Rattle.demand3.specs.Demand3 as of-book
 use Rattle.demand3.proofs.Bytes.{demand-3}
 
@@ -115,3 +115,71 @@ theft = after Live (begin 1 0) (one-note ++ (Byte 0x99 ∷ Byte 36 ∷ []))
 pub theft-answer : Live .answer theft (Byte 64) ≡ Note 10 36 0 Stolen
 unfolding upTo total filterBy firstOf padded begun stored oneDataByte completed dataByte opened ended statusByte split decode tableOf startTable sharesFrom lookup shareOf groupOf excludes agesOf newest assigned silent changes stateAfter changed isAmong leaves silenced lowestIdle wanted oldest busyCount overShare stealFrom cleared step5 choice noteOn fresh isRhythm playNoteOn played started heard byteTaken taken after
 theft-answer = refl
+
+-- the claim gives what the theft stands on: generator 0 had a note, and not one that the drum ends
+pub theft-fair : (isNote (theft .book .notes 0) ≡ true) × (isEnded true 10 36 (theft .book .notes 0) ≡ false)
+unfolding upTo total filterBy firstOf padded begun stored oneDataByte completed dataByte opened ended statusByte split decode tableOf startTable sharesFrom lookup shareOf groupOf excludes agesOf newest assigned silent changes stateAfter changed isAmong leaves silenced lowestIdle wanted oldest busyCount overShare stealFrom cleared step5 choice noteOn fresh isRhythm playNoteOn played started heard byteTaken taken keepMessage keep after
+theft-fair = demand-3 1 0 (one-note ++ (Byte 0x99 ∷ Byte 36 ∷ Byte 64 ∷ [])) .fair .1 .1 .1 .1 .1 .0 refl 0 (omega arith)
+
+-- ---- P 1, a drum held: a note on channel 1 is turned away, which is fair for the same reason
+
+abbrev refusal : Both
+refusal = after Live (begin 1 0) (Byte 0x99 ∷ Byte 36 ∷ Byte 64 ∷ Byte 0x90 ∷ Byte 60 ∷ [])
+
+pub refusal-answer : Live .answer refusal (Byte 64) ≡ NoNote 11 1 60
+unfolding upTo total filterBy firstOf padded begun stored oneDataByte completed dataByte opened ended statusByte split decode tableOf startTable sharesFrom lookup shareOf groupOf excludes agesOf newest assigned silent changes stateAfter changed isAmong leaves silenced lowestIdle wanted oldest busyCount overShare stealFrom cleared step5 choice noteOn fresh isRhythm playNoteOn played started heard byteTaken taken keepMessage keep after
+refusal-answer = refl
+
+pub refusal-fair : (isNote (refusal .book .notes 0) ≡ true) × (isEnded false 1 60 (refusal .book .notes 0) ≡ false)
+unfolding upTo total filterBy firstOf padded begun stored oneDataByte completed dataByte opened ended statusByte split decode tableOf startTable sharesFrom lookup shareOf groupOf excludes agesOf newest assigned silent changes stateAfter changed isAmong leaves silenced lowestIdle wanted oldest busyCount overShare stealFrom cleared step5 choice noteOn fresh isRhythm playNoteOn played started heard byteTaken taken keepMessage keep after
+refusal-fair = demand-3 1 0 (Byte 0x99 ∷ Byte 36 ∷ Byte 64 ∷ Byte 0x90 ∷ Byte 60 ∷ Byte 64 ∷ []) .fair .1 .1 .1 .1 .1 .0 refl 0 (omega arith)
+
+-- ---- P 2, all of it the share of channel 10: it brings one drum into a run in which channel 1 plays two notes
+
+abbrev pub before : List Event
+before = Byte 0x99 ∷ Byte 36 ∷ Byte 64 ∷ []
+
+abbrev pub run : List Event
+run = Byte 0x90 ∷ Byte 60 ∷ Byte 64 ∷ Byte 62 ∷ Byte 64 ∷ Byte 0x99 ∷ Byte 38 ∷ Byte 64 ∷ []
+
+abbrev pub later : List Event
+later = Report 0 ∷ []
+
+-- where the run starts, where channel 1 lacks a generator and where channel 10 wants its second
+abbrev at-start : Both
+at-start = after Live (begin 2 0) before
+
+abbrev at-theft : Both
+at-theft = after Live at-start (Byte 0x90 ∷ Byte 60 ∷ Byte 64 ∷ Byte 62 ∷ [])
+
+abbrev at-second : Both
+at-second = after Live at-start (Byte 0x90 ∷ Byte 60 ∷ Byte 64 ∷ Byte 62 ∷ Byte 64 ∷ Byte 0x99 ∷ Byte 38 ∷ [])
+
+pub brought-along : notesOn 2 10 (at-start .book .notes) ≡ 1
+unfolding upTo total filterBy firstOf padded begun stored oneDataByte completed dataByte opened ended statusByte split decode tableOf startTable sharesFrom lookup shareOf groupOf excludes agesOf newest assigned silent changes stateAfter changed isAmong leaves silenced lowestIdle wanted oldest busyCount overShare stealFrom cleared step5 choice noteOn fresh isRhythm playNoteOn played started heard byteTaken taken keepMessage keep after
+brought-along = refl
+
+pub somebody-robbed : Live .answer at-theft (Byte 64) ≡ Note 1 62 1 Stolen
+unfolding upTo total filterBy firstOf padded begun stored oneDataByte completed dataByte opened ended statusByte split decode tableOf startTable sharesFrom lookup shareOf groupOf excludes agesOf newest assigned silent changes stateAfter changed isAmong leaves silenced lowestIdle wanted oldest busyCount overShare stealFrom cleared step5 choice noteOn fresh isRhythm playNoteOn played started heard byteTaken taken keepMessage keep after
+somebody-robbed = refl
+
+-- by the claim alone it isn't channel 10, and channel 10 gets its second drum
+pub drums-kept : (isOf 10 (stolenNote (at-theft .book) 1 62 (Live .answer at-theft (Byte 64))) ≡ false) × (isServed 10 38 (Live .answer at-second (Byte 64)) ≡ true)
+unfolding upTo total filterBy firstOf padded begun stored oneDataByte completed dataByte opened ended statusByte split decode tableOf startTable sharesFrom lookup shareOf groupOf excludes agesOf newest assigned silent changes stateAfter changed isAmong leaves silenced lowestIdle wanted oldest busyCount overShare stealFrom cleared step5 choice noteOn fresh isRhythm playNoteOn played started heard byteTaken taken keepMessage keep after
+drums-kept =
+    let safe =
+        demand-3 2 0 (before ++ (run ++ later)) .shared before run later refl (tt, (tt, (tt, (tt, (tt, (tt, (tt, (tt, tt)))))))) 10
+        (omega arith, (tt, (tt, ((λ e. omega arith), (tt, ((λ e. omega arith), (tt, (tt, ((λ e. omega arith), tt)))))))))
+    in
+    (safe .1 .1 .1 .1 .0 .1, safe .1 .1 .1 .1 .1 .1 .1 .0 .0 refl)
+
+-- ---- the end of any list
+
+exact-after : (S : System) (s : S .State) (l : List (S .Event)) → Always S s l → IsExact S (after S s l)
+unfolding after
+exact-after S s [] a = a
+exact-after S s (e ∷ l) a = exact-after S (S .next s e) l (a .1)
+
+-- no generator from P on sounds, whatever was played; P is what the book took from the start
+pub none-beyond : (p id : ℕ) (l : List Event) (g : ℕ) → after Live (begin p id) l .book .polyphony ≤ g → isIdle (at (after Live (begin p id) l .device .instrument .generators) g) ≡ true
+none-beyond p id l g h = exact-after Live (begin p id) l (demand-3 p id l .exact) .beyond g h
