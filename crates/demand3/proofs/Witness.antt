@@ -1,5 +1,5 @@
 -- Demand 3 bites. First its words, for any book and answer: what keeps within a share, what ends a run, what is served, robbed and lost is no less than the paper
--- says. Then four short lists, where `demand-3` alone, not the device, yields what a player hears. A claim emptied behind its name would not give these facts.
+-- says. Then short lists, where `demand-3` alone, not the device, says what becomes of a note. A claim emptied behind its name would not give these facts.
 -- Assumes nothing.
 use mathlib.Core.Path.{_≡_, refl, sym, ap, _∙_}
 use mathlib.Core.Bool.{Bool, true, false, not, _&&_, _||_}
@@ -35,7 +35,7 @@ use Rattle.device.specs.Device.{started, heard, byteTaken}
 use Rattle.events.specs.declared.Event.{Event}
 use Rattle.events.specs.declared.Event.the-variants.{Byte, Report}
 use Rattle.events.specs.Events.{taken, reportTaken}
-use Rattle.demand3.specs.Demand3.{Book, isNote, isOf, isEnded, remaining, keepMessage, Heard, nothing, message, newTable, reset, report, keep, notesOn, IsWithin, stolenNote, isLoss, isServed, Safe, IsInRun, System, after, IsExact, Always, Both, Live, begin}
+use Rattle.demand3.specs.Demand3.{Book, isNote, isOf, isEnded, remaining, keepMessage, Heard, nothing, message, newTable, reset, report, keep, IsWithin, stolenNote, isStolen, isLoss, isServed, Safe, IsInRun, System, after, IsExact, Always, Both, Live, begin}
 use Rattle.demand3.specs.Demand3 as of-book
 use Rattle.demand3.proofs.Bytes.{demand-3}
 
@@ -79,7 +79,7 @@ stolen-lost b c k x y g = refl
 
 -- "makes a note leave as stolen", whatever the answer calls it
 pub leaving-lost : (b : Book) (c k x y g : ℕ) (w : Was) → isNote (remaining b c k g) ≡ true → isLoss b c k (Note x y g w) ≡ true
-leaving-lost b c k x y g w e = go (of-book.isStolen w) e
+leaving-lost b c k x y g w e = go (isStolen w) e
   where
     go : (p : Bool) → isNote (remaining b c k g) ≡ true → p || isNote (remaining b c k g) ≡ true
     go true e = refl
@@ -93,6 +93,39 @@ turned-lost b c k Done u n = ap not u
 turned-lost b c k (NoNote m x y) u n = ap not u
 turned-lost b c k (Number m) u n = ap not u
 
+-- where nothing is lost on an unmasked channel, the note has a generator that no other had
+abbrev pub IsGiven : Answer → Type 0
+IsGiven a = (x : ℕ) × ((y : ℕ) × ((g : ℕ) × ((w : Was) × ((a ≡ Note x y g w) × (isStolen w ≡ false)))))
+
+pub not-lost : (b : Book) (c k : ℕ) (a : Answer) → isMasked (of-book.shareOf b c) ≡ false → isLoss b c k a ≡ false → IsGiven a
+not-lost b c k (Note x y g w) u e = (x, (y, (g, (w, (refl, go (isStolen w) e)))))
+  where
+    go : (p : Bool) → p || isNote (remaining b c k g) ≡ false → p ≡ false
+    go true e = e
+    go false e = refl
+not-lost b c k Nothing u e = clash (sym e ∙ ap not u)
+not-lost b c k Done u e = clash (sym e ∙ ap not u)
+not-lost b c k (NoNote n x y) u e = clash (sym e ∙ ap not u)
+not-lost b c k (Number n) u e = clash (sym e ∙ ap not u)
+
+-- ---- lists
+
+-- arithmetic on numerals, apart from the lists: what a tactic finds in reach it computes
+0-of-1 : 0 ≤ 1
+0-of-1 = omega arith
+
+1-of-1 : 1 ≤ 1
+1-of-1 = omega arith
+
+1-of-2 : 1 ≤ 2
+1-of-2 = omega arith
+
+2-of-2 : 2 ≤ 2
+2-of-2 = omega arith
+
+1-not-10 : _≡_ {A = ℕ} 1 10 → ⊥
+1-not-10 e = omega arith
+
 -- ---- P 1, and channel 10 has it: a drum after a report is served
 
 abbrev pub drum : List Event
@@ -100,78 +133,54 @@ drum = Report 0 ∷ Byte 0x99 ∷ Byte 36 ∷ Byte 64 ∷ []
 
 pub drum-served : isServed 10 36 (Live .answer (after Live (begin 1 0) (Report 0 ∷ Byte 0x99 ∷ Byte 36 ∷ [])) (Byte 64)) ≡ true
 unfolding total begun stored oneDataByte completed dataByte opened ended statusByte split decode sharesFrom lookup silent fresh reported started heard byteTaken reportTaken taken keepMessage keep after
-drum-served = demand-3 1 0 drum .shared [] drum [] refl (tt, (tt, (tt, (tt, tt)))) 10 (omega arith, (tt, (tt, (tt, ((λ e. omega arith), tt))))) .1 .1 .1 .0 .0 refl
+drum-served = demand-3 1 0 drum .shared [] drum [] refl (tt, (tt, (tt, (tt, tt)))) 10 (0-of-1, (tt, (tt, (tt, ((λ e. 1-of-1), tt))))) .1 .1 .1 .0 .0 refl
 
--- ---- P 1, one note held on channel 1: a drum steals it, which is fair since every generator had a note that the drum doesn't end
+-- ---- P 1, nothing played: channel 1 has no unit of it, and is served all the same, since a generator is idle
 
-abbrev pub one-note : List Event
-one-note = Byte 0x90 ∷ Byte 60 ∷ Byte 64 ∷ []
+abbrev first : Both
+first = after Live (begin 1 0) (Byte 0x90 ∷ Byte 60 ∷ [])
 
--- the book and the answer at the last byte
+pub idle-generator-given : IsGiven (Live .answer first (Byte 64))
+unfolding begun stored oneDataByte completed dataByte opened ended statusByte split decode sharesFrom lookup fresh started heard byteTaken taken keep after
+idle-generator-given = go (isLoss (first .book) 1 60 (Live .answer first (Byte 64))) refl
+  where
+    go : (l : Bool) → isLoss (first .book) 1 60 (Live .answer first (Byte 64)) ≡ l → IsGiven (Live .answer first (Byte 64))
+    go true e = clash (demand-3 1 0 (Byte 0x90 ∷ Byte 60 ∷ Byte 64 ∷ []) .fair .1 .1 .0 e 0 1-of-1 .0)
+    go false e = not-lost (first .book) 1 60 (Live .answer first (Byte 64)) refl e
+
+-- ---- P 1, a note held on channel 1: a drum steals it
+
 abbrev theft : Both
-theft = after Live (begin 1 0) (one-note ++ (Byte 0x99 ∷ Byte 36 ∷ []))
+theft = after Live (begin 1 0) (Byte 0x90 ∷ Byte 60 ∷ Byte 64 ∷ Byte 0x99 ∷ Byte 36 ∷ [])
 
--- the theft does happen
-pub theft-answer : Live .answer theft (Byte 64) ≡ Note 10 36 0 Stolen
-unfolding upTo total filterBy firstOf padded begun stored oneDataByte completed dataByte opened ended statusByte split decode tableOf startTable sharesFrom lookup shareOf groupOf excludes agesOf newest assigned silent changes stateAfter changed isAmong leaves silenced lowestIdle wanted oldest busyCount overShare stealFrom cleared step5 choice noteOn fresh isRhythm playNoteOn played started heard byteTaken taken after
-theft-answer = refl
-
--- the claim gives what the theft stands on: generator 0 had a note, and not one that the drum ends
-pub theft-fair : (isNote (theft .book .notes 0) ≡ true) × (isEnded true 10 36 (theft .book .notes 0) ≡ false)
+-- the loss does happen, and the claim gives what it stands on: generator 0 had a note, and not one that the drum ends
+pub theft-when-full : (isLoss (theft .book) 10 36 (Live .answer theft (Byte 64)) ≡ true) × ((isNote (theft .book .notes 0) ≡ true) × (isEnded true 10 36 (theft .book .notes 0) ≡ false))
 unfolding upTo total filterBy firstOf padded begun stored oneDataByte completed dataByte opened ended statusByte split decode tableOf startTable sharesFrom lookup shareOf groupOf excludes agesOf newest assigned silent changes stateAfter changed isAmong leaves silenced lowestIdle wanted oldest busyCount overShare stealFrom cleared step5 choice noteOn fresh isRhythm playNoteOn played started heard byteTaken taken keepMessage keep after
-theft-fair = demand-3 1 0 (one-note ++ (Byte 0x99 ∷ Byte 36 ∷ Byte 64 ∷ [])) .fair .1 .1 .1 .1 .1 .0 refl 0 (omega arith)
+theft-when-full =
+    let lost : isLoss (theft .book) 10 36 (Live .answer theft (Byte 64)) ≡ true = refl in
+    (lost, demand-3 1 0 (Byte 0x90 ∷ Byte 60 ∷ Byte 64 ∷ Byte 0x99 ∷ Byte 36 ∷ Byte 64 ∷ []) .fair .1 .1 .1 .1 .1 .0 lost 0 1-of-1)
 
--- ---- P 1, a drum held: a note on channel 1 is turned away, which is fair for the same reason
-
-abbrev refusal : Both
-refusal = after Live (begin 1 0) (Byte 0x99 ∷ Byte 36 ∷ Byte 64 ∷ Byte 0x90 ∷ Byte 60 ∷ [])
-
-pub refusal-answer : Live .answer refusal (Byte 64) ≡ NoNote 11 1 60
-unfolding upTo total filterBy firstOf padded begun stored oneDataByte completed dataByte opened ended statusByte split decode tableOf startTable sharesFrom lookup shareOf groupOf excludes agesOf newest assigned silent changes stateAfter changed isAmong leaves silenced lowestIdle wanted oldest busyCount overShare stealFrom cleared step5 choice noteOn fresh isRhythm playNoteOn played started heard byteTaken taken keepMessage keep after
-refusal-answer = refl
-
-pub refusal-fair : (isNote (refusal .book .notes 0) ≡ true) × (isEnded false 1 60 (refusal .book .notes 0) ≡ false)
-unfolding upTo total filterBy firstOf padded begun stored oneDataByte completed dataByte opened ended statusByte split decode tableOf startTable sharesFrom lookup shareOf groupOf excludes agesOf newest assigned silent changes stateAfter changed isAmong leaves silenced lowestIdle wanted oldest busyCount overShare stealFrom cleared step5 choice noteOn fresh isRhythm playNoteOn played started heard byteTaken taken keepMessage keep after
-refusal-fair = demand-3 1 0 (Byte 0x99 ∷ Byte 36 ∷ Byte 64 ∷ Byte 0x90 ∷ Byte 60 ∷ Byte 64 ∷ []) .fair .1 .1 .1 .1 .1 .0 refl 0 (omega arith)
-
--- ---- P 2, all of it the share of channel 10: it brings one drum into a run in which channel 1 plays two notes
+-- ---- P 2, all of it channel 10's: it brings a drum into a run in which channel 1 has the other generator and sends
 
 abbrev pub before : List Event
-before = Byte 0x99 ∷ Byte 36 ∷ Byte 64 ∷ []
+before = Byte 0x99 ∷ Byte 36 ∷ Byte 64 ∷ Byte 0x90 ∷ Byte 60 ∷ Byte 64 ∷ []
 
-abbrev pub run : List Event
-run = Byte 0x90 ∷ Byte 60 ∷ Byte 64 ∷ Byte 62 ∷ Byte 64 ∷ Byte 0x99 ∷ Byte 38 ∷ Byte 64 ∷ []
+abbrev brought : Both
+brought = after Live (begin 2 0) before
 
-abbrev pub later : List Event
-later = Report 0 ∷ []
+-- a second note of channel 1, by running status: there is no room for it, and whatever is done, the drum isn't stolen
+pub drum-kept : isOf 10 (stolenNote (Live .next brought (Byte 62) .book) 1 62 (Live .answer (Live .next brought (Byte 62)) (Byte 64))) ≡ false
+unfolding upTo total filterBy firstOf padded begun stored oneDataByte completed dataByte opened ended statusByte split decode tableOf startTable sharesFrom lookup shareOf groupOf excludes agesOf newest assigned silent changes stateAfter changed isAmong leaves silenced lowestIdle cleared choice noteOn fresh isRhythm playNoteOn played started heard byteTaken taken keepMessage keep after
+drum-kept =
+    demand-3 2 0 (before ++ (Byte 62 ∷ Byte 64 ∷ Report 0 ∷ [])) .shared before (Byte 62 ∷ Byte 64 ∷ []) (Report 0 ∷ []) refl (tt, (tt, tt)) 10
+    (1-of-2, (tt, ((λ e. absurd (1-not-10 e)), tt))) .1 .0 .1
 
--- where the run starts, where channel 1 lacks a generator and where channel 10 wants its second
-abbrev at-start : Both
-at-start = after Live (begin 2 0) before
-
-abbrev at-theft : Both
-at-theft = after Live at-start (Byte 0x90 ∷ Byte 60 ∷ Byte 64 ∷ Byte 62 ∷ [])
-
-abbrev at-second : Both
-at-second = after Live at-start (Byte 0x90 ∷ Byte 60 ∷ Byte 64 ∷ Byte 62 ∷ Byte 64 ∷ Byte 0x99 ∷ Byte 38 ∷ [])
-
-pub brought-along : notesOn 2 10 (at-start .book .notes) ≡ 1
-unfolding upTo total filterBy firstOf padded begun stored oneDataByte completed dataByte opened ended statusByte split decode tableOf startTable sharesFrom lookup shareOf groupOf excludes agesOf newest assigned silent changes stateAfter changed isAmong leaves silenced lowestIdle wanted oldest busyCount overShare stealFrom cleared step5 choice noteOn fresh isRhythm playNoteOn played started heard byteTaken taken keepMessage keep after
-brought-along = refl
-
-pub somebody-robbed : Live .answer at-theft (Byte 64) ≡ Note 1 62 1 Stolen
-unfolding upTo total filterBy firstOf padded begun stored oneDataByte completed dataByte opened ended statusByte split decode tableOf startTable sharesFrom lookup shareOf groupOf excludes agesOf newest assigned silent changes stateAfter changed isAmong leaves silenced lowestIdle wanted oldest busyCount overShare stealFrom cleared step5 choice noteOn fresh isRhythm playNoteOn played started heard byteTaken taken keepMessage keep after
-somebody-robbed = refl
-
--- by the claim alone it isn't channel 10, and channel 10 gets its second drum
-pub drums-kept : (isOf 10 (stolenNote (at-theft .book) 1 62 (Live .answer at-theft (Byte 64))) ≡ false) × (isServed 10 38 (Live .answer at-second (Byte 64)) ≡ true)
-unfolding upTo total filterBy firstOf padded begun stored oneDataByte completed dataByte opened ended statusByte split decode tableOf startTable sharesFrom lookup shareOf groupOf excludes agesOf newest assigned silent changes stateAfter changed isAmong leaves silenced lowestIdle wanted oldest busyCount overShare stealFrom cleared step5 choice noteOn fresh isRhythm playNoteOn played started heard byteTaken taken keepMessage keep after
-drums-kept =
-    let safe =
-        demand-3 2 0 (before ++ (run ++ later)) .shared before run later refl (tt, (tt, (tt, (tt, (tt, (tt, (tt, (tt, tt)))))))) 10
-        (omega arith, (tt, (tt, ((λ e. omega arith), (tt, ((λ e. omega arith), (tt, (tt, ((λ e. omega arith), tt)))))))))
-    in
-    (safe .1 .1 .1 .1 .0 .1, safe .1 .1 .1 .1 .1 .1 .1 .0 .0 refl)
+-- a second drum, which with the first is all of the share: it is served
+pub second-drum-served : isServed 10 38 (Live .answer (after Live brought (Byte 0x99 ∷ Byte 38 ∷ [])) (Byte 64)) ≡ true
+unfolding upTo total filterBy firstOf padded begun stored oneDataByte completed dataByte opened ended statusByte split decode tableOf startTable sharesFrom lookup shareOf groupOf excludes agesOf newest assigned silent changes stateAfter changed isAmong leaves silenced lowestIdle cleared choice noteOn fresh isRhythm playNoteOn played started heard byteTaken taken keepMessage keep after
+second-drum-served =
+    demand-3 2 0 (before ++ (Byte 0x99 ∷ Byte 38 ∷ Byte 64 ∷ Report 0 ∷ [])) .shared before (Byte 0x99 ∷ Byte 38 ∷ Byte 64 ∷ []) (Report 0 ∷ []) refl (tt, (tt, (tt, tt))) 10
+    (1-of-2, (tt, (tt, ((λ e. 2-of-2), tt)))) .1 .1 .0 .0 refl
 
 -- ---- the end of any list
 
