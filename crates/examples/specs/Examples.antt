@@ -54,27 +54,52 @@ sixteen =
     0 ∷ 1 ∷ 1 ∷ 1 ∷ 2 ∷ 1 ∷ 3 ∷ 1 ∷ 4 ∷ 1 ∷ 5 ∷ 1 ∷ 6 ∷ 1 ∷ 7 ∷ 1
     ∷ 8 ∷ 1 ∷ 9 ∷ 1 ∷ 10 ∷ 1 ∷ 11 ∷ 1 ∷ 12 ∷ 1 ∷ 13 ∷ 1 ∷ 14 ∷ 1 ∷ 15 ∷ 1 ∷ []
 
--- P3, P4: whether channel 1 is masked among P generators, alone in the table with this value
-abbrev pub maskBy : ℕ → ℕ → Seen
-maskBy p value = mask (deviceMask (after (fresh p) (mip (0x00 ∷ value ∷ []))) 1)
+-- the answer to the last of these bytes
+abbrev pub answered : Device → List ℕ → List Seen
+answered d l = answer (lastAnswer d l) ∷ []
 
--- P1, P2, P6 and P8: a generator just before the note-on, and the note-on's answer, which takes it
+-- a note-on, velocity 64, that takes generator g: what g was just before the last byte, and the answer
 abbrev pub noteOn : Device → List ℕ → ℕ → ℕ → List Seen
-noteOn d l key g = generator (generatorQuery (after d (l ++ (key ∷ []))) g) ∷ answer (lastAnswer d (l ++ (key ∷ 64 ∷ []))) ∷ []
+noteOn d l key g = generator (generatorQuery (after d (l ++ (key ∷ []))) g) ∷ answered d (l ++ (key ∷ 64 ∷ []))
+
+-- whether channel 1, alone in the table with this value, is masked among P generators
+abbrev pub maskBy : ℕ → ℕ → List Seen
+maskBy p value = mask (deviceMask (after (fresh p) (mip (0x00 ∷ value ∷ []))) 1) ∷ []
+
+-- the share of channel c by this table among 10 generators
+abbrev pub shareBy : List ℕ → ℕ → List Seen
+shareBy l c = share (deviceShare (after (fresh 10) (mip l)) c) ∷ []
 
 -- what the definitions say; P3 and P4 speak of every P
+unfoldable pub P1 : List Seen
+P1 = noteOn (fresh 10) crowd 62 2
+
+unfoldable pub P2 : List Seen
+P2 = noteOn (fresh 10) (crowd ++ (62 ∷ 64 ∷ [])) 63 8
+
+unfoldable pub P3 : ℕ → List Seen
+P3 p = maskBy p p
+
+unfoldable pub P4 : ℕ → List Seen
+P4 p = maskBy p (p + 1)
+
+unfoldable pub P5 : List Seen
+P5 = shareBy (0x00 ∷ 5 ∷ 0x01 ∷ 5 ∷ []) 1 ++ shareBy (0x00 ∷ 5 ∷ 0x01 ∷ 5 ∷ []) 2
+
+unfoldable pub P6 : List Seen
+P6 = noteOn (fresh 1) (0x90 ∷ 0x3C ∷ 0x40 ∷ 0x99 ∷ []) 0x24 0
+
+unfoldable pub P7 : List Seen
+P7 = answered (fresh 1) (0x99 ∷ 0x24 ∷ 0x40 ∷ 0x90 ∷ 0x3C ∷ 0x40 ∷ [])
+
+unfoldable pub P8 : List Seen
+P8 = noteOn (fresh 4) (0x99 ∷ 0x2E ∷ 0x40 ∷ []) 0x2A 0
+
+unfoldable pub P9 : List Seen
+P9 = answered (fresh 1) (mip sixteen) ++ answered (fresh 1) (mip (replicate 33 0))
+
 unfoldable pub computed : ℕ → List Seen
-computed p =
-    noteOn (fresh 10) crowd 62 2
-    ++ noteOn (fresh 10) (crowd ++ (62 ∷ 64 ∷ [])) 63 8
-    ++ (maskBy p p ∷ maskBy p (p + 1) ∷ [])
-    ++ (share (deviceShare (after (fresh 10) (mip (0x00 ∷ 5 ∷ 0x01 ∷ 5 ∷ []))) 1)
-    ∷ share (deviceShare (after (fresh 10) (mip (0x00 ∷ 5 ∷ 0x01 ∷ 5 ∷ []))) 2)
-    ∷ [])
-    ++ noteOn (fresh 1) (0x90 ∷ 0x3C ∷ 0x40 ∷ 0x99 ∷ []) 0x24 0
-    ++ (answer (lastAnswer (fresh 1) (0x99 ∷ 0x24 ∷ 0x40 ∷ 0x90 ∷ 0x3C ∷ 0x40 ∷ [])) ∷ [])
-    ++ noteOn (fresh 4) (0x99 ∷ 0x2E ∷ 0x40 ∷ []) 0x2A 0
-    ++ (answer (lastAnswer (fresh 1) (mip sixteen)) ∷ answer (lastAnswer (fresh 1) (mip (replicate 33 0))) ∷ [])
+computed p = P1 ++ P2 ++ P3 p ++ P4 p ++ P5 ++ P6 ++ P7 ++ P8 ++ P9
 
 -- what the paper says
 unfoldable pub printed : List Seen
