@@ -4,7 +4,7 @@
 use mathlib.Core.Path.{_≡_, refl, sym, ap, _∙_}
 use mathlib.Core.Bool.{Bool, true, false, not, _&&_, _||_}
 use mathlib.Core.List.{List, [], _∷_, _++_}
-use Prim.Native.Nat.{ℕ, _≤_}
+use Prim.Native.Nat.{ℕ, _≤_, _<_}
 use native.Mathlib.Omega.{arith}
 use borrow.Author.Tests.{eqb-true}
 use lib.Dec.{eqb}
@@ -35,7 +35,7 @@ use Rattle.device.specs.Device.{started, heard, byteTaken}
 use Rattle.events.specs.declared.Event.{Event}
 use Rattle.events.specs.declared.Event.the-variants.{Byte, Report}
 use Rattle.events.specs.Events.{taken, reportTaken}
-use Rattle.demand3.specs.Demand3.{Book, isNote, isOf, isEnded, remaining, keepMessage, Heard, nothing, message, newTable, reset, report, keep, IsWithin, stolenNote, isStolen, isLoss, isServed, Safe, IsInRun, System, after, IsExact, Always, Both, Live, begin}
+use Rattle.demand3.specs.Demand3.{Book, isNote, isOf, isEnded, remaining, keepMessage, Heard, nothing, message, newTable, reset, report, keep, IsWithin, stolenNote, isStolen, isLoss, isServed, Fair, Safe, IsInRun, System, after, IsExact, Always, Both, Live, begin}
 use Rattle.demand3.specs.Demand3 as of-book
 use Rattle.demand3.proofs.Bytes.{demand-3}
 
@@ -57,21 +57,29 @@ in-run reset t r = absurd (r refl)
 in-run (report g) t r = tt
 
 -- who is served is answered note, with channel and key
-pub served-note : (c k : ℕ) (a : Answer) → isServed c k a ≡ true → (g : ℕ) × ((w : Was) × (a ≡ Note c k g w))
-served-note c k (Note x y g w) e = go (eqb x c) refl (eqb y k) refl e
+pub served-note : (b : Book) (c k : ℕ) (a : Answer) → Safe c b a c k → (g : ℕ) × ((w : Was) × (a ≡ Note c k g w))
+served-note b c k a s = go a (s .0 refl)
   where
-    go : (p : Bool) → eqb x c ≡ p → (q : Bool) → eqb y k ≡ q → p && q ≡ true → (h : ℕ) × ((v : Was) × (Note x y g w ≡ Note c k h v))
-    go true p true q e = (g, (w, rw (eqb-true x c p, eqb-true y k q)))
-    go true p false q e = clash e
-    go false p q r e = clash e
-served-note c k Nothing e = clash e
-served-note c k Done e = clash e
-served-note c k (NoNote n x y) e = clash e
-served-note c k (Number n) e = clash e
+    same : (x y g : ℕ) (w : Was) (p : Bool) → eqb x c ≡ p → (q : Bool) → eqb y k ≡ q → p && q ≡ true → (h : ℕ) × ((v : Was) × (Note x y g w ≡ Note c k h v))
+    same x y g w true p true q e = (g, (w, rw (eqb-true x c p, eqb-true y k q)))
+    same x y g w true p false q e = clash e
+    same x y g w false p q r e = clash e
+
+    go : (a : Answer) → isServed c k a ≡ true → (g : ℕ) × ((w : Was) × (a ≡ Note c k g w))
+    go (Note x y g w) e = same x y g w (eqb x c) refl (eqb y k) refl e
+    go Nothing e = clash e
+    go Done e = clash e
+    go (NoNote n x y) e = clash e
+    go (Number n) e = clash e
 
 -- where a note of channel c still stands, no other may be put
 pub robbed-unsafe : (b : Book) (c d k g : ℕ) (w : Was) → isOf c (remaining b d k g) ≡ true → Safe c b (Note d k g w) d k → ⊥
 robbed-unsafe b c d k g w e s = clash (sym (s .1) ∙ e)
+
+-- a loss is fair only where every generator had a note, and none that the new one ends
+pub fair-full : (b : Book) (a : Answer) (c k : ℕ) → Fair b a c k → isLoss b c k a ≡ true → (g : ℕ) → g < b .polyphony
+    → (isNote (b .notes g) ≡ true) × (isEnded (of-book.isRhythm b c) c k (b .notes g) ≡ false)
+fair-full b a c k f = f
 
 -- the losses: "answers stolen"
 pub stolen-lost : (b : Book) (c k x y g : ℕ) → isLoss b c k (Note x y g Stolen) ≡ true
@@ -160,27 +168,33 @@ theft-when-full =
     let lost : isLoss (theft .book) 10 36 (Live .answer theft (Byte 64)) ≡ true = refl in
     (lost, demand-3 1 0 (Byte 0x90 ∷ Byte 60 ∷ Byte 64 ∷ Byte 0x99 ∷ Byte 36 ∷ Byte 64 ∷ []) .fair .1 .1 .1 .1 .1 .0 lost 0 1-of-1)
 
--- ---- P 2, all of it channel 10's: it brings a drum into a run in which channel 1 has the other generator and sends
+-- ---- runs that bring a drum along: nothing is forgotten where they start
 
-abbrev pub before : List Event
-before = Byte 0x99 ∷ Byte 36 ∷ Byte 64 ∷ Byte 0x90 ∷ Byte 60 ∷ Byte 64 ∷ []
+abbrev pub first-drum : List Event
+first-drum = Byte 0x99 ∷ Byte 36 ∷ Byte 64 ∷ []
 
-abbrev brought : Both
-brought = after Live (begin 2 0) before
+-- P 1: the drum has the only generator, and a note on channel 1 finds none; whatever is done, the drum isn't stolen
+abbrev no-room : Both
+no-room = after Live (begin 1 0) (first-drum ++ (Byte 0x90 ∷ Byte 60 ∷ []))
 
--- a second note of channel 1, by running status: there is no room for it, and whatever is done, the drum isn't stolen
-pub drum-kept : isOf 10 (stolenNote (Live .next brought (Byte 62) .book) 1 62 (Live .answer (Live .next brought (Byte 62)) (Byte 64))) ≡ false
+pub drum-kept : isOf 10 (stolenNote (no-room .book) 1 60 (Live .answer no-room (Byte 64))) ≡ false
 unfolding upTo total filterBy firstOf padded begun stored oneDataByte completed dataByte opened ended statusByte split decode tableOf startTable sharesFrom lookup shareOf groupOf excludes agesOf newest assigned silent changes stateAfter changed isAmong leaves silenced lowestIdle cleared choice noteOn fresh isRhythm playNoteOn played started heard byteTaken taken keepMessage keep after
 drum-kept =
-    demand-3 2 0 (before ++ (Byte 62 ∷ Byte 64 ∷ Report 0 ∷ [])) .shared before (Byte 62 ∷ Byte 64 ∷ []) (Report 0 ∷ []) refl (tt, (tt, tt)) 10
-    (1-of-2, (tt, ((λ e. absurd (1-not-10 e)), tt))) .1 .0 .1
+    demand-3 1 0 (first-drum ++ (Byte 0x90 ∷ Byte 60 ∷ Byte 64 ∷ Report 0 ∷ [])) .shared first-drum (Byte 0x90 ∷ Byte 60 ∷ Byte 64 ∷ []) (Report 0 ∷ []) refl (tt, (tt, (tt, tt)))
+    10 (1-of-1, (tt, (tt, ((λ e. absurd (1-not-10 e)), tt)))) .1 .1 .0 .1
 
--- a second drum, which with the first is all of the share: it is served
-pub second-drum-served : isServed 10 38 (Live .answer (after Live brought (Byte 0x99 ∷ Byte 38 ∷ [])) (Byte 64)) ≡ true
+-- P 2: channel 1 takes the second generator, and then channel 10 wants a second drum, which with the first is all of its share; it is served
+abbrev all-taken : Both
+all-taken = after Live (begin 2 0) (first-drum ++ (Byte 0x90 ∷ Byte 60 ∷ Byte 64 ∷ Byte 0x99 ∷ Byte 38 ∷ []))
+
+abbrev pub run : List Event
+run = Byte 0x90 ∷ Byte 60 ∷ Byte 64 ∷ Byte 0x99 ∷ Byte 38 ∷ Byte 64 ∷ []
+
+pub second-drum-served : isServed 10 38 (Live .answer all-taken (Byte 64)) ≡ true
 unfolding upTo total filterBy firstOf padded begun stored oneDataByte completed dataByte opened ended statusByte split decode tableOf startTable sharesFrom lookup shareOf groupOf excludes agesOf newest assigned silent changes stateAfter changed isAmong leaves silenced lowestIdle cleared choice noteOn fresh isRhythm playNoteOn played started heard byteTaken taken keepMessage keep after
 second-drum-served =
-    demand-3 2 0 (before ++ (Byte 0x99 ∷ Byte 38 ∷ Byte 64 ∷ Report 0 ∷ [])) .shared before (Byte 0x99 ∷ Byte 38 ∷ Byte 64 ∷ []) (Report 0 ∷ []) refl (tt, (tt, (tt, tt))) 10
-    (1-of-2, (tt, (tt, ((λ e. 2-of-2), tt)))) .1 .1 .0 .0 refl
+    demand-3 2 0 (first-drum ++ (run ++ (Report 0 ∷ []))) .shared first-drum run (Report 0 ∷ []) refl (tt, (tt, (tt, (tt, (tt, (tt, tt)))))) 10
+    (1-of-2, (tt, (tt, ((λ e. absurd (1-not-10 e)), (tt, (tt, ((λ e. 2-of-2), tt))))))) .1 .1 .1 .1 .1 .0 .0 refl
 
 -- ---- the end of any list
 
@@ -189,6 +203,10 @@ unfolding after
 exact-after S s [] a = a
 exact-after S s (e ∷ l) a = exact-after S (S .next s e) l (a .1)
 
--- no generator from P on sounds, whatever was played; P is what the book took from the start
+-- no generator from P on sounds
+beyond-idle : (S : System) (s : S .State) → IsExact S s → (g : ℕ) → S .book s .polyphony ≤ g → isIdle (at (S .instrument s .generators) g) ≡ true
+beyond-idle S s e = e .beyond
+
+-- whatever was played; P is what the book took from the start
 pub none-beyond : (p id : ℕ) (l : List Event) (g : ℕ) → after Live (begin p id) l .book .polyphony ≤ g → isIdle (at (after Live (begin p id) l .device .instrument .generators) g) ≡ true
-none-beyond p id l g h = exact-after Live (begin p id) l (demand-3 p id l .exact) .beyond g h
+none-beyond p id l = beyond-idle Live (after Live (begin p id) l) (exact-after Live (begin p id) l (demand-3 p id l .exact))
