@@ -7,3 +7,4 @@ pub mod Steps
 pub mod Run
 pub mod Age
 pub mod Bytes
+pub mod Witness

@@ -272,9 +272,12 @@ module _ (S : System) (L : Lawful S) where
             (matches-parser _ _ (L .parser s e) (step (S .instrument s) (S .instrument (S .next s e)) (S .book s) (S .hears s e) (S .answer s e) (L .right s e (f .is) (f .matches)) (f .matches)));
       }
 
+  exact-now : (s : S .State) → Fine s → IsExact S s
+  exact-now s f = record { notes = f .matches .notes; beyond = f .matches .playable .above }
+
   run-exact : (s : S .State) → Fine s → (l : List (S .Event)) → Always S s l
-  run-exact s f [] = f .matches .notes
-  run-exact s f (e ∷ l) = (f .matches .notes, run-exact (S .next s e) (fine-next s f e) l)
+  run-exact s f [] = exact-now s f
+  run-exact s f (e ∷ l) = (exact-now s f, run-exact (S .next s e) (fine-next s f e) l)
 
   run-fair : (s : S .State) → Fine s → (l : List (S .Event)) → Each S Fair s l
   run-fair s f [] = tt

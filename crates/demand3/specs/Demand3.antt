@@ -24,7 +24,7 @@ use Rattle.sysex.specs.declared.Kind.{Kind}
 use Rattle.sysex.specs.declared.Kind.the-variants as kind
 use Rattle.sysex.specs.SysEx.{kindOf, pairs}
 use Rattle.drums.specs.Drums.{excludes}
-use Rattle.generators.specs.Generators.{Generator, at, isHeld, isSustained}
+use Rattle.generators.specs.Generators.{Generator, at, isIdle, isHeld, isSustained}
 use Rattle.allocation.specs.declared.Was.{Was}
 use Rattle.allocation.specs.declared.Was.the-variants.{Idle, Release, Stolen}
 use Rattle.instrument.specs.declared.Instrument.{Instrument}
@@ -260,11 +260,12 @@ isStolen Idle = false
 isStolen Release = false
 isStolen Stolen = true
 
--- "a note-on above 0 answers stolen, makes a note leave as stolen or, on an unmasked channel, answers a number"
+-- "a note-on above 0 answers stolen, makes a note leave as stolen or, on an unmasked channel, answers a number": more than that sentence, since every answer but
+-- note turns an unmasked channel away, done and none as well as a number
 abbrev pub isLoss : Book → ℕ → ℕ → Answer → Bool
 isLoss b c k (Note x y g w) = isStolen w || isNote (stolenNote b c k (Note x y g w))
-isLoss b c k Nothing = false
-isLoss b c k Done = false
+isLoss b c k Nothing = not (isMasked (shareOf b c))
+isLoss b c k Done = not (isMasked (shareOf b c))
 isLoss b c k (NoNote n x y) = not (isMasked (shareOf b c))
 isLoss b c k (Number n) = not (isMasked (shareOf b c))
 
@@ -332,9 +333,10 @@ module _ (S : System) where
   after s [] = s
   after s (e ∷ l) = after (S .next s e) l
 
-  -- "the busy generators are exactly those with a note in the book"
-  abbrev pub IsExact : S .State → Type 0
-  IsExact s = (g : ℕ) → S .book s .notes g ≡ slotOf (at (S .instrument s .generators) g)
+  -- "the busy generators are exactly those with a note in the book"; "Generators are numbered 0 to P − 1": from P on all are idle
+  pub record IsExact (s : S .State) : Type 0 where
+    pub notes : (g : ℕ) → S .book s .notes g ≡ slotOf (at (S .instrument s .generators) g)
+    pub beyond : (g : ℕ) → S .book s .polyphony ≤ g → isIdle (at (S .instrument s .generators) g) ≡ true
 
   -- at the start and after every event
   abbrev pub Always : S .State → List (S .Event) → Type 0

@@ -1,5 +1,5 @@
--- Document 01, "Paper examples": P1 to P9 as one list of what the definitions say, and one of what the paper says.
-use Prim.Native.Nat.{ℕ}
+-- Document 01, "Paper examples": P1 to P9 as one list of what the definitions say, and one of what the paper says. All go through the bytes, from a start on.
+use Prim.Native.Nat.{ℕ, _+_}
 use mathlib.Core.List.{List, [], _∷_, _++_}
 use lib.ListN.{replicate}
 use Rattle.allocation.specs.declared.Was.the-variants.{Idle, Release, Stolen}
@@ -7,14 +7,13 @@ use Rattle.shares.specs.declared.MaskAnswer.{MaskAnswer}
 use Rattle.shares.specs.declared.MaskAnswer.the-variants.{IsMasked, IsUnmasked}
 use Rattle.shares.specs.declared.ShareAnswer.{ShareAnswer}
 use Rattle.shares.specs.declared.ShareAnswer.the-variants.{ShareIs}
-use Rattle.sysex.specs.declared.Verdict.{Verdict}
-use Rattle.sysex.specs.declared.Verdict.the-variants.{Accepted, Refused}
-use Rattle.sysex.specs.SysEx.{judged}
 use Rattle.playing.specs.declared.Answer.{Answer}
 use Rattle.playing.specs.declared.Answer.the-variants.{Nothing, Done, Note, NoNote, Number}
 use Rattle.device.specs.declared.Device.{Device}
 use Rattle.device.specs.Device.{started, byteTaken}
-use Rattle.queries.specs.Queries.{deviceMask, deviceShare}
+use Rattle.queries.specs.declared.GeneratorAnswer.{GeneratorAnswer}
+use Rattle.queries.specs.declared.GeneratorAnswer.the-variants.{GeneratorIs}
+use Rattle.queries.specs.Queries.{generatorQuery, deviceMask, deviceShare}
 
 -- the device after bytes, and its answer to the last of them
 abbrev pub after : Device → List ℕ → Device
@@ -32,9 +31,10 @@ fresh p = started p 0 .device
 -- what an example looks at
 pub data Seen : Type 0 where
   answer : Answer → Seen
+  -- state (1: held), channel and key
+  generator : GeneratorAnswer → Seen
   mask : MaskAnswer → Seen
   share : ShareAnswer → Seen
-  verdict : Verdict → Seen
 
 -- a MIP message
 abbrev pub mip : List ℕ → List ℕ
@@ -54,35 +54,75 @@ sixteen =
     0 ∷ 1 ∷ 1 ∷ 1 ∷ 2 ∷ 1 ∷ 3 ∷ 1 ∷ 4 ∷ 1 ∷ 5 ∷ 1 ∷ 6 ∷ 1 ∷ 7 ∷ 1
     ∷ 8 ∷ 1 ∷ 9 ∷ 1 ∷ 10 ∷ 1 ∷ 11 ∷ 1 ∷ 12 ∷ 1 ∷ 13 ∷ 1 ∷ 14 ∷ 1 ∷ 15 ∷ 1 ∷ []
 
--- what the definitions say
-unfoldable pub computed : List Seen
-computed =
-    answer (lastAnswer (fresh 10) (crowd ++ (62 ∷ 64 ∷ [])))
-    ∷ answer (lastAnswer (fresh 10) (crowd ++ (62 ∷ 64 ∷ 63 ∷ 64 ∷ [])))
-    ∷ mask (deviceMask (after (fresh 10) (mip (0x00 ∷ 10 ∷ []))) 1)
-    ∷ mask (deviceMask (after (fresh 10) (mip (0x00 ∷ 11 ∷ []))) 1)
-    ∷ share (deviceShare (after (fresh 10) (mip (0x00 ∷ 5 ∷ 0x01 ∷ 5 ∷ []))) 1)
-    ∷ share (deviceShare (after (fresh 10) (mip (0x00 ∷ 5 ∷ 0x01 ∷ 5 ∷ []))) 2)
-    ∷ answer (lastAnswer (fresh 1) (0x90 ∷ 0x3C ∷ 0x40 ∷ 0x99 ∷ 0x24 ∷ 0x40 ∷ []))
-    ∷ answer (lastAnswer (fresh 1) (0x99 ∷ 0x24 ∷ 0x40 ∷ 0x90 ∷ 0x3C ∷ 0x40 ∷ []))
-    ∷ answer (lastAnswer (fresh 4) (0x99 ∷ 0x2E ∷ 0x40 ∷ 0x2A ∷ 0x40 ∷ []))
-    ∷ verdict (judged sixteen .verdict)
-    ∷ verdict (judged (replicate 33 0) .verdict)
-    ∷ []
+-- the answer to the last of these bytes
+abbrev pub answered : Device → List ℕ → List Seen
+answered d l = answer (lastAnswer d l) ∷ []
 
--- what the paper says: P1 steals from channel 2, whose oldest note is on generator 2, and P2 from channel 3, whose oldest is on 8; "P3: value P is
--- unmasked; P4: P + 1 is masked. P5: P 10, values 5, 5 give shares 5, 0"; P6 steals, P7 is number 11; P8: "key 46 goes idle and its generator takes 42"; P9
+-- a note-on, velocity 64, that takes generator g: what g was just before the last byte, and the answer
+abbrev pub noteOn : Device → List ℕ → ℕ → ℕ → List Seen
+noteOn d l key g = generator (generatorQuery (after d (l ++ (key ∷ []))) g) ∷ answered d (l ++ (key ∷ 64 ∷ []))
+
+-- whether channel 1, alone in the table with this value, is masked among P generators
+abbrev pub maskBy : ℕ → ℕ → List Seen
+maskBy p value = mask (deviceMask (after (fresh p) (mip (0x00 ∷ value ∷ []))) 1) ∷ []
+
+-- the share of channel c by this table among 10 generators
+abbrev pub shareBy : List ℕ → ℕ → List Seen
+shareBy l c = share (deviceShare (after (fresh 10) (mip l)) c) ∷ []
+
+-- what the definitions say; P3 and P4 speak of every P
+unfoldable pub P1 : List Seen
+P1 = noteOn (fresh 10) crowd 62 2
+
+unfoldable pub P2 : List Seen
+P2 = noteOn (fresh 10) (crowd ++ (62 ∷ 64 ∷ [])) 63 8
+
+unfoldable pub P3 : ℕ → List Seen
+P3 p = maskBy p p
+
+unfoldable pub P4 : ℕ → List Seen
+P4 p = maskBy p (p + 1)
+
+unfoldable pub P5 : List Seen
+P5 = shareBy (0x00 ∷ 5 ∷ 0x01 ∷ 5 ∷ []) 1 ++ shareBy (0x00 ∷ 5 ∷ 0x01 ∷ 5 ∷ []) 2
+
+unfoldable pub P6 : List Seen
+P6 = noteOn (fresh 1) (0x90 ∷ 0x3C ∷ 0x40 ∷ 0x99 ∷ []) 0x24 0
+
+unfoldable pub P7 : List Seen
+P7 = answered (fresh 1) (0x99 ∷ 0x24 ∷ 0x40 ∷ 0x90 ∷ 0x3C ∷ 0x40 ∷ [])
+
+unfoldable pub P8 : List Seen
+P8 = noteOn (fresh 4) (0x99 ∷ 0x2E ∷ 0x40 ∷ []) 0x2A 0
+
+unfoldable pub P9 : List Seen
+P9 = answered (fresh 1) (mip sixteen) ++ answered (fresh 1) (mip (replicate 33 0))
+
+unfoldable pub computed : ℕ → List Seen
+computed p = P1 ++ P2 ++ P3 p ++ P4 p ++ P5 ++ P6 ++ P7 ++ P8 ++ P9
+
+-- what the paper says
 unfoldable pub printed : List Seen
 printed =
-    answer (Note 3 62 2 Stolen)
+    -- P1: "A note on 3 steals from 2", whose oldest note, key 60, is on generator 2
+    generator (GeneratorIs 1 2 60)
+    ∷ answer (Note 3 62 2 Stolen)
+    -- P2: "a further note on 3 steals from 3", whose oldest is on 8
+    ∷ generator (GeneratorIs 1 3 60)
     ∷ answer (Note 3 63 8 Stolen)
+    -- "P3: value P is unmasked; P4: P + 1 is masked. P5: P 10, values 5, 5 give shares 5, 0"
     ∷ mask IsUnmasked
     ∷ mask IsMasked
     ∷ share (ShareIs 5)
     ∷ share (ShareIs 0)
+    -- P6: "steals from channel 1"; P7: "number 11"
+    ∷ generator (GeneratorIs 1 1 60)
     ∷ answer (Note 10 36 0 Stolen)
     ∷ answer (NoNote 11 1 60)
+    -- P8: "key 46 goes idle and its generator takes 42"
+    ∷ generator (GeneratorIs 1 10 46)
     ∷ answer (Note 10 42 0 Idle)
-    ∷ verdict Accepted
-    ∷ verdict (Refused 5)
+    -- P9: "32 bytes of pairs pass number 5; 33 do not"
+    ∷ answer Done
+    ∷ answer (Number 5)
     ∷ []

@@ -1,0 +1,212 @@
+-- Demand 3 bites. First its words, for any book and answer: what keeps within a share, what ends a run, what is served, robbed and lost is no less than the paper
+-- says. Then short lists, where `demand-3` alone, not the device, says what becomes of a note. A claim emptied behind its name would not give these facts.
+-- Assumes nothing.
+use mathlib.Core.Path.{_≡_, refl, sym, ap, _∙_}
+use mathlib.Core.Bool.{Bool, true, false, not, _&&_, _||_}
+use mathlib.Core.List.{List, [], _∷_, _++_}
+use Prim.Native.Nat.{ℕ, _≤_, _<_}
+use native.Mathlib.Omega.{arith}
+use borrow.Author.Tests.{eqb-true}
+use lib.Dec.{eqb}
+use Rattle.loops.specs.Passes.{upTo, total, filterBy, firstOf, padded}
+use Rattle.splitter.specs.Split.{begun, stored, oneDataByte, completed, dataByte, opened, ended, statusByte, split}
+use Rattle.message.specs.declared.Message.{Message}
+use Rattle.message.specs.Message.{decode}
+use Rattle.table.specs.declared.Entry.{Entry}
+use Rattle.table.specs.Table.{tableOf, startTable}
+use Rattle.shares.specs.declared.Share.the-variants.{Units}
+use Rattle.shares.specs.Shares.{sharesFrom, lookup, shareOf, isMasked}
+use Rattle.drums.specs.Drums.{groupOf, excludes}
+use Rattle.ages.specs.Ages.{agesOf, newest}
+use Rattle.generators.specs.Generators.{at, isIdle, assigned, silent}
+use Rattle.changes.specs.Changes.{changes, stateAfter, changed}
+use Rattle.silence.specs.Silence.{isAmong, leaves, silenced}
+use Rattle.choice.specs.Choice.{lowestIdle, wanted, oldest, busyCount}
+use Rattle.stealing.specs.Stealing.{overShare, stealFrom}
+use Rattle.allocation.specs.declared.Was.{Was}
+use Rattle.allocation.specs.declared.Was.the-variants.{Stolen}
+use Rattle.allocation.specs.Allocation.{cleared, step5, choice, noteOn}
+use Rattle.instrument.specs.Instrument.{fresh, isRhythm}
+use Rattle.playing.specs.declared.Answer.{Answer}
+use Rattle.playing.specs.declared.Answer.the-variants.{Nothing, Done, Note, NoNote, Number}
+use Rattle.playing.specs.Playing.{playNoteOn, played}
+use Rattle.reports.specs.Reports.{reported}
+use Rattle.device.specs.Device.{started, heard, byteTaken}
+use Rattle.events.specs.declared.Event.{Event}
+use Rattle.events.specs.declared.Event.the-variants.{Byte, Report}
+use Rattle.events.specs.Events.{taken, reportTaken}
+use Rattle.demand3.specs.Demand3.{Book, isNote, isOf, isEnded, remaining, keepMessage, Heard, nothing, message, newTable, reset, report, keep, IsWithin, stolenNote, isStolen, isLoss, isServed, Fair, Safe, IsInRun, System, after, IsExact, Always, Both, Live, begin}
+use Rattle.demand3.specs.Demand3 as of-book
+use Rattle.demand3.proofs.Bytes.{demand-3}
+
+-- ---- the words, whatever the device
+
+clash : {A : Type 0} → _≡_ {A = Bool} false true → A
+clash e = absurd (let z : _≡_ {A = ℕ} 0 1 = cc in omega arith)
+
+-- all of the share may be used
+pub whole-share : (u n : ℕ) → n ≤ u → IsWithin (Units u) n
+whole-share u n h = h
+
+-- an accepted MIP message and an accepted reset end a run, and nothing else does
+pub in-run : (h : Heard) → ((t : List Entry) → h ≡ newTable t → ⊥) → (h ≡ reset → ⊥) → IsInRun h
+in-run nothing t r = tt
+in-run (message m) t r = tt
+in-run (newTable x) t r = absurd (t x refl)
+in-run reset t r = absurd (r refl)
+in-run (report g) t r = tt
+
+-- who is served is answered note, with channel and key
+pub served-note : (b : Book) (c k : ℕ) (a : Answer) → Safe c b a c k → (g : ℕ) × ((w : Was) × (a ≡ Note c k g w))
+served-note b c k a s = go a (s .0 refl)
+  where
+    same : (x y g : ℕ) (w : Was) (p : Bool) → eqb x c ≡ p → (q : Bool) → eqb y k ≡ q → p && q ≡ true → (h : ℕ) × ((v : Was) × (Note x y g w ≡ Note c k h v))
+    same x y g w true p true q e = (g, (w, rw (eqb-true x c p, eqb-true y k q)))
+    same x y g w true p false q e = clash e
+    same x y g w false p q r e = clash e
+
+    go : (a : Answer) → isServed c k a ≡ true → (g : ℕ) × ((w : Was) × (a ≡ Note c k g w))
+    go (Note x y g w) e = same x y g w (eqb x c) refl (eqb y k) refl e
+    go Nothing e = clash e
+    go Done e = clash e
+    go (NoNote n x y) e = clash e
+    go (Number n) e = clash e
+
+-- where a note of channel c still stands, no other may be put
+pub robbed-unsafe : (b : Book) (c d k g : ℕ) (w : Was) → isOf c (remaining b d k g) ≡ true → Safe c b (Note d k g w) d k → ⊥
+robbed-unsafe b c d k g w e s = clash (sym (s .1) ∙ e)
+
+-- a loss is fair only where every generator had a note, and none that the new one ends
+pub fair-full : (b : Book) (a : Answer) (c k : ℕ) → Fair b a c k → isLoss b c k a ≡ true → (g : ℕ) → g < b .polyphony
+    → (isNote (b .notes g) ≡ true) × (isEnded (of-book.isRhythm b c) c k (b .notes g) ≡ false)
+fair-full b a c k f = f
+
+-- the losses: "answers stolen"
+pub stolen-lost : (b : Book) (c k x y g : ℕ) → isLoss b c k (Note x y g Stolen) ≡ true
+stolen-lost b c k x y g = refl
+
+-- "makes a note leave as stolen", whatever the answer calls it
+pub leaving-lost : (b : Book) (c k x y g : ℕ) (w : Was) → isNote (remaining b c k g) ≡ true → isLoss b c k (Note x y g w) ≡ true
+leaving-lost b c k x y g w e = go (isStolen w) e
+  where
+    go : (p : Bool) → isNote (remaining b c k g) ≡ true → p || isNote (remaining b c k g) ≡ true
+    go true e = refl
+    go false e = e
+
+-- on an unmasked channel every answer but note
+pub turned-lost : (b : Book) (c k : ℕ) (a : Answer) → isMasked (of-book.shareOf b c) ≡ false → ((x y g : ℕ) (w : Was) → a ≡ Note x y g w → ⊥) → isLoss b c k a ≡ true
+turned-lost b c k (Note x y g w) u n = absurd (n x y g w refl)
+turned-lost b c k Nothing u n = ap not u
+turned-lost b c k Done u n = ap not u
+turned-lost b c k (NoNote m x y) u n = ap not u
+turned-lost b c k (Number m) u n = ap not u
+
+-- where nothing is lost on an unmasked channel, the note has a generator that no other had
+abbrev pub IsGiven : Answer → Type 0
+IsGiven a = (x : ℕ) × ((y : ℕ) × ((g : ℕ) × ((w : Was) × ((a ≡ Note x y g w) × (isStolen w ≡ false)))))
+
+pub not-lost : (b : Book) (c k : ℕ) (a : Answer) → isMasked (of-book.shareOf b c) ≡ false → isLoss b c k a ≡ false → IsGiven a
+not-lost b c k (Note x y g w) u e = (x, (y, (g, (w, (refl, go (isStolen w) e)))))
+  where
+    go : (p : Bool) → p || isNote (remaining b c k g) ≡ false → p ≡ false
+    go true e = e
+    go false e = refl
+not-lost b c k Nothing u e = clash (sym e ∙ ap not u)
+not-lost b c k Done u e = clash (sym e ∙ ap not u)
+not-lost b c k (NoNote n x y) u e = clash (sym e ∙ ap not u)
+not-lost b c k (Number n) u e = clash (sym e ∙ ap not u)
+
+-- ---- lists
+
+-- arithmetic on numerals, apart from the lists: what a tactic finds in reach it computes
+0-of-1 : 0 ≤ 1
+0-of-1 = omega arith
+
+1-of-1 : 1 ≤ 1
+1-of-1 = omega arith
+
+1-of-2 : 1 ≤ 2
+1-of-2 = omega arith
+
+2-of-2 : 2 ≤ 2
+2-of-2 = omega arith
+
+1-not-10 : _≡_ {A = ℕ} 1 10 → ⊥
+1-not-10 e = omega arith
+
+-- ---- P 1, and channel 10 has it: a drum after a report is served
+
+abbrev pub drum : List Event
+drum = Report 0 ∷ Byte 0x99 ∷ Byte 36 ∷ Byte 64 ∷ []
+
+pub drum-served : isServed 10 36 (Live .answer (after Live (begin 1 0) (Report 0 ∷ Byte 0x99 ∷ Byte 36 ∷ [])) (Byte 64)) ≡ true
+unfolding total begun stored oneDataByte completed dataByte opened ended statusByte split decode sharesFrom lookup silent fresh reported started heard byteTaken reportTaken taken keepMessage keep after
+drum-served = demand-3 1 0 drum .shared [] drum [] refl (tt, (tt, (tt, (tt, tt)))) 10 (0-of-1, (tt, (tt, (tt, ((λ e. 1-of-1), tt))))) .1 .1 .1 .0 .0 refl
+
+-- ---- P 1, nothing played: channel 1 has no unit of it, and is served all the same, since a generator is idle
+
+abbrev first : Both
+first = after Live (begin 1 0) (Byte 0x90 ∷ Byte 60 ∷ [])
+
+pub idle-generator-given : IsGiven (Live .answer first (Byte 64))
+unfolding begun stored oneDataByte completed dataByte opened ended statusByte split decode sharesFrom lookup fresh started heard byteTaken taken keep after
+idle-generator-given = go (isLoss (first .book) 1 60 (Live .answer first (Byte 64))) refl
+  where
+    go : (l : Bool) → isLoss (first .book) 1 60 (Live .answer first (Byte 64)) ≡ l → IsGiven (Live .answer first (Byte 64))
+    go true e = clash (demand-3 1 0 (Byte 0x90 ∷ Byte 60 ∷ Byte 64 ∷ []) .fair .1 .1 .0 e 0 1-of-1 .0)
+    go false e = not-lost (first .book) 1 60 (Live .answer first (Byte 64)) refl e
+
+-- ---- P 1, a note held on channel 1: a drum steals it
+
+abbrev theft : Both
+theft = after Live (begin 1 0) (Byte 0x90 ∷ Byte 60 ∷ Byte 64 ∷ Byte 0x99 ∷ Byte 36 ∷ [])
+
+-- the loss does happen, and the claim gives what it stands on: generator 0 had a note, and not one that the drum ends
+pub theft-when-full : (isLoss (theft .book) 10 36 (Live .answer theft (Byte 64)) ≡ true) × ((isNote (theft .book .notes 0) ≡ true) × (isEnded true 10 36 (theft .book .notes 0) ≡ false))
+unfolding upTo total filterBy firstOf padded begun stored oneDataByte completed dataByte opened ended statusByte split decode tableOf startTable sharesFrom lookup shareOf groupOf excludes agesOf newest assigned silent changes stateAfter changed isAmong leaves silenced lowestIdle wanted oldest busyCount overShare stealFrom cleared step5 choice noteOn fresh isRhythm playNoteOn played started heard byteTaken taken keepMessage keep after
+theft-when-full =
+    let lost : isLoss (theft .book) 10 36 (Live .answer theft (Byte 64)) ≡ true = refl in
+    (lost, demand-3 1 0 (Byte 0x90 ∷ Byte 60 ∷ Byte 64 ∷ Byte 0x99 ∷ Byte 36 ∷ Byte 64 ∷ []) .fair .1 .1 .1 .1 .1 .0 lost 0 1-of-1)
+
+-- ---- runs that bring a drum along: nothing is forgotten where they start
+
+abbrev pub first-drum : List Event
+first-drum = Byte 0x99 ∷ Byte 36 ∷ Byte 64 ∷ []
+
+-- P 1: the drum has the only generator, and a note on channel 1 finds none; whatever is done, the drum isn't stolen
+abbrev no-room : Both
+no-room = after Live (begin 1 0) (first-drum ++ (Byte 0x90 ∷ Byte 60 ∷ []))
+
+pub drum-kept : isOf 10 (stolenNote (no-room .book) 1 60 (Live .answer no-room (Byte 64))) ≡ false
+unfolding upTo total filterBy firstOf padded begun stored oneDataByte completed dataByte opened ended statusByte split decode tableOf startTable sharesFrom lookup shareOf groupOf excludes agesOf newest assigned silent changes stateAfter changed isAmong leaves silenced lowestIdle cleared choice noteOn fresh isRhythm playNoteOn played started heard byteTaken taken keepMessage keep after
+drum-kept =
+    demand-3 1 0 (first-drum ++ (Byte 0x90 ∷ Byte 60 ∷ Byte 64 ∷ Report 0 ∷ [])) .shared first-drum (Byte 0x90 ∷ Byte 60 ∷ Byte 64 ∷ []) (Report 0 ∷ []) refl (tt, (tt, (tt, tt)))
+    10 (1-of-1, (tt, (tt, ((λ e. absurd (1-not-10 e)), tt)))) .1 .1 .0 .1
+
+-- P 2: channel 1 takes the second generator, and then channel 10 wants a second drum, which with the first is all of its share; it is served
+abbrev all-taken : Both
+all-taken = after Live (begin 2 0) (first-drum ++ (Byte 0x90 ∷ Byte 60 ∷ Byte 64 ∷ Byte 0x99 ∷ Byte 38 ∷ []))
+
+abbrev pub run : List Event
+run = Byte 0x90 ∷ Byte 60 ∷ Byte 64 ∷ Byte 0x99 ∷ Byte 38 ∷ Byte 64 ∷ []
+
+pub second-drum-served : isServed 10 38 (Live .answer all-taken (Byte 64)) ≡ true
+unfolding upTo total filterBy firstOf padded begun stored oneDataByte completed dataByte opened ended statusByte split decode tableOf startTable sharesFrom lookup shareOf groupOf excludes agesOf newest assigned silent changes stateAfter changed isAmong leaves silenced lowestIdle cleared choice noteOn fresh isRhythm playNoteOn played started heard byteTaken taken keepMessage keep after
+second-drum-served =
+    demand-3 2 0 (first-drum ++ (run ++ (Report 0 ∷ []))) .shared first-drum run (Report 0 ∷ []) refl (tt, (tt, (tt, (tt, (tt, (tt, tt)))))) 10
+    (1-of-2, (tt, (tt, ((λ e. absurd (1-not-10 e)), (tt, (tt, ((λ e. 2-of-2), tt))))))) .1 .1 .1 .1 .1 .0 .0 refl
+
+-- ---- the end of any list
+
+exact-after : (S : System) (s : S .State) (l : List (S .Event)) → Always S s l → IsExact S (after S s l)
+unfolding after
+exact-after S s [] a = a
+exact-after S s (e ∷ l) a = exact-after S (S .next s e) l (a .1)
+
+-- no generator from P on sounds
+beyond-idle : (S : System) (s : S .State) → IsExact S s → (g : ℕ) → S .book s .polyphony ≤ g → isIdle (at (S .instrument s .generators) g) ≡ true
+beyond-idle S s e = e .beyond
+
+-- whatever was played; P is what the book took from the start
+pub none-beyond : (p id : ℕ) (l : List Event) (g : ℕ) → after Live (begin p id) l .book .polyphony ≤ g → isIdle (at (after Live (begin p id) l .device .instrument .generators) g) ≡ true
+none-beyond p id l = beyond-idle Live (after Live (begin p id) l) (exact-after Live (begin p id) l (demand-3 p id l .exact))
