@@ -23,9 +23,10 @@ use Rattle.instrument.specs.Instrument as of-instrument
 use Rattle.masking.specs.Masking.{masked}
 use Rattle.playing.specs.declared.Answer.{Answer}
 use Rattle.playing.specs.declared.Answer.the-variants.{Done, Number}
-use Rattle.playing.specs.Playing.{liftsPedal, silencesAll, endsAll, notesAfter, playNoteOff, playControl, replied, played}
+use Rattle.playing.specs.Playing.{replied, played}
+use Rattle.other_messages.specs.OtherMessages.{liftsPedal, silencesAll, endsAll, notesAfter, playNoteOff, playControl}
 use Rattle.reports.specs.Reports.{reported}
-use Rattle.device.specs.Device.{newTable}
+use Rattle.exclusive.specs.Exclusive.{newTable}
 use Rattle.demand3.specs.Demand3.{Book, Heard, System, after}
 use Rattle.demand3.specs.Age.{named, byAnswers, AgeByAnswers}
 use Rattle.demand3.proofs.Matches.{Matches, note-law}

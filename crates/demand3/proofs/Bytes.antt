@@ -35,8 +35,9 @@ use Rattle.playing.specs.declared.Answer.the-variants as answer
 use Rattle.playing.specs.declared.Reply.{Reply}
 use Rattle.device.specs.declared.Device.{Device}
 use Rattle.device.specs.declared.Output.{Output}
-use Rattle.device.specs.Device.{freshOutput, started, judgedReply, mipTaken, kindReply, exclusive, heard, byteTaken}
-use Rattle.device.specs.Device as of-device
+use Rattle.device.specs.Device.{freshOutput, started, heard, byteTaken}
+use Rattle.exclusive.specs.Exclusive.{judgedReply, mipTaken, kindReply, exclusive}
+use Rattle.exclusive.specs.Exclusive as of-exclusive
 use Rattle.events.specs.declared.Event.{Event}
 use Rattle.events.specs.declared.Event.the-variants.{Byte, Report}
 use Rattle.events.specs.Events.{reportTaken, taken}
@@ -72,7 +73,7 @@ module _ (i : Instrument) (l : List ℕ) where
       (judgedReply i v (judged (drop 4 l) .table) .answer) (judgedReply i v (judged (drop 4 l) .table) .instrument)
   mip-right Accepted e =
       let t = accepted (drop 4 l) e in
-      subst (λ (x : List Entry). Right i (newTable x) answer.Done (of-device.newTable i (judged (drop 4 l) .table))) (t .entries)
+      subst (λ (x : List Entry). Right i (newTable x) answer.Done (of-exclusive.newTable i (judged (drop 4 l) .table))) (t .entries)
       (right-table (judged (drop 4 l) .table) (subst WellFormed (sym (t .entries)) (t .well-formed)))
   mip-right (Refused n) e = right-nothing (answer.Number n) (λ m. refl)
 

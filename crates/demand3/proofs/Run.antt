@@ -26,9 +26,10 @@ use Rattle.instrument.specs.declared.Instrument.{Instrument}
 use Rattle.instrument.specs.Instrument.{fresh}
 use Rattle.playing.specs.declared.Answer.{Answer}
 use Rattle.playing.specs.declared.Answer.the-variants.{Nothing, Done, Note, NoNote, Number}
-use Rattle.playing.specs.Playing.{played, liftsPedal, silencesAll, endsAll}
+use Rattle.playing.specs.Playing.{played}
+use Rattle.other_messages.specs.OtherMessages.{liftsPedal, silencesAll, endsAll}
 use Rattle.reports.specs.Reports.{reported}
-use Rattle.device.specs.Device as of-device
+use Rattle.exclusive.specs.Exclusive as of-exclusive
 use Rattle.demand3.specs.Demand3.{Slot, empty, note, Book, withParser, shareOf, isRhythm, isNote, isOf, isEnded, freed, allFreed, put, withHolds, remaining, keepNoteOn, keepNoteOff, notesAfter, keepControl, keepMessage, keepTable, keepReport, Heard, nothing, message, newTable, reset, report, keep}
 use Rattle.demand3.specs.Demand3.{notesOn, countAt, IsWithin, stolenNote, isStolen, isLoss, IsFull, isServed, Fair, Keeps, Safe, AtNoteOn, IsInRun, System, after, IsExact, Always, Each, IsRun, StaysWithin, Demand3}
 use Rattle.demand3.specs.Age.{named}
@@ -45,7 +46,7 @@ IsNoNote a = (l : List ℕ) → named l a ≡ l
 pub data Right (i : Instrument) : Heard → Answer → Instrument → Type 0 where
   right-nothing : (a : Answer) → IsNoNote a → Right i nothing a i
   right-message : (m : Message) → IsSent m → Right i (message m) (played i m .answer) (played i m .instrument)
-  right-table : (t : Table) → WellFormed (entriesOf t) → Right i (newTable (entriesOf t)) Done (of-device.newTable i t)
+  right-table : (t : Table) → WellFormed (entriesOf t) → Right i (newTable (entriesOf t)) Done (of-exclusive.newTable i t)
   right-reset : Right i reset Done (fresh (i .polyphony) (i .id))
   right-report : (g : ℕ) → Right i (report g) (reported i g .answer) (reported i g .instrument)
 

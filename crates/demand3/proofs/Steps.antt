@@ -38,10 +38,11 @@ use Rattle.masking.specs.Masking.{isNewlyMasked, masked}
 use Rattle.playing.specs.declared.Answer.{Answer}
 use Rattle.playing.specs.declared.Answer.the-variants.{Done, Number}
 use Rattle.playing.specs.declared.Reply.{Reply}
-use Rattle.playing.specs.Playing.{liftsPedal, silencesAll, endsAll, playNoteOff, playControl, replied, played}
-use Rattle.playing.specs.Playing as of-playing
+use Rattle.playing.specs.Playing.{replied, played}
+use Rattle.other_messages.specs.OtherMessages.{liftsPedal, silencesAll, endsAll, playNoteOff, playControl}
+use Rattle.other_messages.specs.OtherMessages as of-others
 use Rattle.reports.specs.Reports.{reported}
-use Rattle.device.specs.Device.{newTable}
+use Rattle.exclusive.specs.Exclusive.{newTable}
 use Rattle.demand3.specs.Demand3.{Slot, empty, note, Book, withNotes, withHolds, withTable, freshBook, shareOf, isRhythm, pedalDown, isDown, isOnPedal, isOf, isOfKey, freed, allFreed, put, slotOf, keepNoteOff, holdAfter, notesAfter, keepControl, keepMessage, isOfMasked, keepTable, keepReport}
 use Rattle.demand3.proofs.Playable.{playable-changed, playable-silenced, playable-restated, playable-silent}
 use Rattle.demand3.proofs.Sees.{Sees, slot-freed, means, pedals, sees-restated, sees-changed, sees-channel, sees-one, sees-silent}
@@ -131,7 +132,7 @@ controlled-hold x n v = go (eqb n 64) refl (eqb n 121 && eqb v 0) refl
         (hold-if (eqb n 101) _ _ (x .hold) refl refl))))))))
 
 step-control : (i : Instrument) (b : Book) → Matches i b → (c n v : ℕ) → 1 ≤ c → c ≤ 16 → Matches (playControl i c n v) (keepControl b c n v)
-unfolding playControl of-playing.notesAfter of-instrument.isRhythm withChannel
+unfolding playControl of-others.notesAfter of-instrument.isRhythm withChannel
 step-control i b m c n v lo hi = go (liftsPedal n v) (silencesAll n v) (endsAll n v)
   where
     x : Channel

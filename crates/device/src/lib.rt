@@ -1,16 +1,12 @@
 // The device (document 01): its start and its bytes, by value, for every value of the record. Reports are in crate `reports`, and both kinds of event
 // together in crate `events`. Assumes nothing.
 ghost use mathlib.Core.Path.{_≡_};
-ghost use Rattle.splitter.specs.Split.{body};
-ghost use Rattle.device.specs.Device.{freshDevice, started, newTable, mipTaken, exclusive, heard, byteTaken};
+ghost use Rattle.device.specs.Device.{freshDevice, started, heard, byteTaken};
 use instrument::Instrument;
 use playing::Answer;
 use playing::Reply;
 use splitter::Completed;
 use splitter::Parser;
-use sysex::Kind;
-use sysex::Verdict;
-use table::Table;
 
 // The device record.
 #[repr(C)]
@@ -66,43 +62,6 @@ pub fn start(polyphony: u8, id: u8) -> Output
     }
 }
 
-// An accepted MIP message: its table replaces the old one, and newly masked channels give way.
-fn new_table(i: Instrument, t: Table) -> Instrument
-    ensures { λ r. ⌜ r ≡ newTable i t ⌝ }
-{
-    let old = i.table;
-    let s = i.generators;
-    let after = masking::mask(s, i.polyphony, old, t);
-    let mut next = i;
-    next.table = t;
-    next.generators = after;
-    next
-}
-
-fn mip(i: Instrument, p: Parser) -> Reply
-    ensures { λ r. ⌜ r ≡ mipTaken i (body p) ⌝ }
-{
-    let j = mip::judge(p);
-    let t = j.table;
-    let v = j.verdict;
-    match v {
-        Verdict::Accepted => Reply::new(Answer::Done, new_table(i, t)),
-        Verdict::Refused(n) => Reply::new(Answer::Number(n), i),
-    }
-}
-
-// An ended SysEx, whose data bytes are those of parser p.
-fn take_sysex(i: Instrument, p: Parser) -> Reply
-    ensures { λ r. ⌜ r ≡ exclusive i (body p) ⌝ }
-{
-    let k = sysex::kind_of(p, i.id);
-    match k {
-        Kind::Mip => mip(i, p),
-        Kind::SystemOn => Reply::new(Answer::Done, Instrument::fresh(i.polyphony, i.id)),
-        Kind::Other => Reply::new(Answer::Nothing, i),
-    }
-}
-
 // What a byte completed, with parser p as the byte found it.
 pub fn take(i: Instrument, p: Parser, c: Completed) -> Reply
     ensures { λ r. ⌜ r ≡ heard i p c ⌝ }
@@ -112,7 +71,7 @@ pub fn take(i: Instrument, p: Parser, c: Completed) -> Reply
         Completed::Stray => Reply::new(Answer::Number(3), i),
         Completed::Cut => Reply::new(Answer::Number(4), i),
         Completed::Message(s, a, b) => playing::play(i, message::read(s, a, b)),
-        Completed::SysEx => take_sysex(i, p),
+        Completed::SysEx => exclusive::take(i, p),
     }
 }
 

@@ -30,7 +30,8 @@ use Rattle.masking.specs.Masking.{masked}
 use Rattle.playing.specs.declared.Answer.the-variants.{Done, Number}
 use Rattle.playing.specs.Playing.{playNoteOn, played}
 use Rattle.device.specs.declared.Device.{Device}
-use Rattle.device.specs.Device.{freshDevice, freshOutput, outputOf, started, newTable, judgedReply, mipTaken, exclusive, heard, byteTaken}
+use Rattle.device.specs.Device.{freshDevice, freshOutput, outputOf, started, heard, byteTaken}
+use Rattle.exclusive.specs.Exclusive.{newTable, judgedReply, mipTaken, exclusive}
 use Rattle.queries.specs.Queries.{generatorQuery, deviceMask}
 use Rattle.examples.specs.Examples.{after, Seen, mask, mip, maskBy, P1, P2, P3, P4, P5, P6, P7, P8, P9, computed, printed}
 use Rattle.examples.specs.Examples as example

@@ -1,24 +1,18 @@
--- Document 01, "Note-on" and "Other messages": what a complete channel message does to the sound module, and what it answers.
+-- Document 01, "Note-on" and "Other messages": what a complete channel message does to the sound module, and what it answers. What note-offs and controllers do is in
+-- `other_messages`.
 use Prim.Native.Nat.{ℕ}
-use mathlib.Core.Bool.{Bool, _&&_, _||_, not}
 use mathlib.Core.Option.{Option, some, none}
-use lib.Dec.{eqb, ltb}
-use Rattle.loops.specs.Cases.{if_then_else_}
 use Rattle.message.specs.declared.Message.{Message}
 use Rattle.message.specs.declared.Message.the-variants as message
-use Rattle.channels.specs.Channel.{withProgram, withBend, controlled}
-use Rattle.generators.specs.declared.Generators.{Generators}
-use Rattle.changes.specs.declared.Change.the-variants.{NoteOff, AllNotesOff, PedalUp}
-use Rattle.changes.specs.Changes.{changed}
-use Rattle.silence.specs.declared.Leaving.the-variants.{Channel}
-use Rattle.silence.specs.Silence.{silenced}
+use Rattle.channels.specs.Channel.{withProgram, withBend}
 use Rattle.allocation.specs.declared.Was.{Was}
 use Rattle.allocation.specs.declared.Taken.{Taken}
 use Rattle.allocation.specs.declared.Taken.the-variants.{Took, Refused}
 use Rattle.allocation.specs.declared.Allocated.{Allocated}
 use Rattle.allocation.specs.Allocation.{noteOn}
 use Rattle.instrument.specs.declared.Instrument.{Instrument}
-use Rattle.instrument.specs.Instrument.{channelOf, withChannel, withGenerators, pedalDown, isRhythm}
+use Rattle.instrument.specs.Instrument.{channelOf, withChannel, withGenerators, isRhythm}
+use Rattle.other_messages.specs.OtherMessages.{playNoteOff, playControl}
 use Rattle.playing.specs.declared.Answer.{Answer}
 use Rattle.playing.specs.declared.Answer.the-variants.{Nothing, Done, Note, NoNote, Number}
 use Rattle.playing.specs.declared.Reply.{Reply}
@@ -39,33 +33,6 @@ playNoteOn i c k = noteReply i c k (noteOn (i .generators) (i .table) (i .polyph
 -- what a note-on can change
 abbrev pub soundedOf : Reply → Sounded
 soundedOf r = record { answer = r .answer; generators = r .instrument .generators }
-
--- "Note-off, or velocity 0 .. On channel 10 it changes nothing"
-unfoldable pub playNoteOff : Instrument → ℕ → ℕ → Instrument
-playNoteOff i c k = if isRhythm i c then i else withGenerators i (changed (NoteOff (pedalDown i c) c k) (i .generators))
-
--- the controllers that end notes: "Hold below 64" and "121, value 0" lift the pedal; "120, value 0" silences; "123, value 0" is a note-off for each key
-abbrev pub liftsPedal : ℕ → ℕ → Bool
-liftsPedal n v = eqb n 64 && ltb v 64 || eqb n 121 && eqb v 0
-
-abbrev pub silencesAll : ℕ → ℕ → Bool
-silencesAll n v = eqb n 120 && eqb v 0
-
-abbrev pub endsAll : ℕ → ℕ → Bool
-endsAll n v = eqb n 123 && eqb v 0
-
-unfoldable pub notesAfter : Bool → ℕ → ℕ → ℕ → Generators → Generators
-notesAfter pedal c n v s =
-    if liftsPedal n v then changed (PedalUp c) s else
-    if silencesAll n v then silenced (Channel c) s else
-    if endsAll n v then changed (AllNotesOff pedal c) s else
-    s
-
--- a controller: the channel's numbers and its notes; "on channel 10 it becomes releasing", whatever the pedal
-unfoldable pub playControl : Instrument → ℕ → ℕ → ℕ → Instrument
-playControl i c n v =
-    withGenerators (withChannel i c (controlled (channelOf i c) n v))
-    (notesAfter (pedalDown i c && not (isRhythm i c)) c n v (i .generators))
 
 abbrev pub replied : Answer → Instrument → Reply
 replied a i = record { answer = a; instrument = i }

@@ -1,14 +1,12 @@
 // What a complete channel message does to the sound module, and what it answers (document 01, "Note-on" and "Other messages"), by value, for every value.
 // Masking stops note-ons and nothing else. Assumes nothing.
 ghost use mathlib.Core.Path.{_≡_};
-ghost use Rattle.playing.specs.Playing.{notesAfter, soundedOf, playNoteOn, playNoteOff, playControl, replyOf, replied, played};
+ghost use Rattle.playing.specs.Playing.{soundedOf, playNoteOn, replyOf, replied, played};
 use allocation::Taken;
 use allocation::Was;
-use changes::Change;
 use generators::Generators;
 use instrument::Instrument;
 use message::Message;
-use silence::Leaving;
 
 // The answer to a byte or a report.
 pub enum Answer {
@@ -45,43 +43,6 @@ impl Reply {
             instrument: i,
         }
     }
-}
-
-// What a controller does to notes: the pedal, 120, 121 and 123.
-fn notes_after(s: Generators, pedal: bool, channel: u8, n: u8, v: u8) -> Generators
-    ensures { λ r. ⌜ r ≡ notesAfter pedal channel n v s ⌝ }
-{
-    if ((n == 64) & (v < 64)) | ((n == 121) & (v == 0)) {
-        return changes::apply(s, Change::PedalUp(channel));
-    }
-    if (n == 120) & (v == 0) {
-        return silence::fall_silent(s, Leaving::Channel(channel));
-    }
-    if (n == 123) & (v == 0) {
-        return changes::apply(s, Change::AllNotesOff(pedal, channel));
-    }
-    s
-}
-
-fn control(i: Instrument, channel: u8, n: u8, v: u8) -> Instrument
-    ensures { λ r. ⌜ r ≡ playControl i channel n v ⌝ }
-{
-    let pedal = i.pedal_down(channel) & !i.is_rhythm(channel);
-    let after = notes_after(i.generators, pedal, channel, n, v);
-    let x = controllers::control(i.channel_of(channel), n, v);
-    i.with_channel(channel, x).with_generators(after)
-}
-
-// A drum ends by its report and not by its note-off.
-fn note_off(i: Instrument, channel: u8, key: u8) -> Instrument
-    ensures { λ r. ⌜ r ≡ playNoteOff i channel key ⌝ }
-{
-    if i.is_rhythm(channel) {
-        return i;
-    }
-    let pedal = i.pedal_down(channel);
-    let after = changes::apply(i.generators, Change::NoteOff(pedal, channel, key));
-    i.with_generators(after)
 }
 
 fn note_answer(taken: Taken, channel: u8, key: u8) -> Answer
@@ -122,8 +83,8 @@ pub fn play(i: Instrument, m: Message) -> Reply
 {
     match m {
         Message::NoteOn(c, k) => note_on(i, c, k),
-        Message::NoteOff(c, k) => Reply::new(Answer::Done, note_off(i, c, k)),
-        Message::Control(c, n, v) => Reply::new(Answer::Done, control(i, c, n, v)),
+        Message::NoteOff(c, k) => Reply::new(Answer::Done, other_messages::note_off(i, c, k)),
+        Message::Control(c, n, v) => Reply::new(Answer::Done, other_messages::control(i, c, n, v)),
         Message::Program(c, n) => Reply::new(
             Answer::Done,
             i.with_channel(c, i.channel_of(c).program(n)),

@@ -35,8 +35,8 @@ play-requires c κs = search needs
 enum-told-4 : tie.Need-enum-told-4
 enum-told-4 c = search needs
 
-take-sysex-requires : tie.Need-take-sysex-requires
-take-sysex-requires c κs = search needs
+take-requires : tie.Need-take-requires
+take-requires c κs = search needs
 
 returns : tie.Need-returns
 unfolding heard
@@ -56,7 +56,7 @@ returns-4 c = simp (c .before .before .before .c .given .1, c .play .ensures, c 
 
 returns-5 : tie.Need-returns-5
 unfolding heard
-returns-5 c = simp (c .before .enum-told4 .given .1, c .take-sysex .ensures)
+returns-5 c = simp (c .before .enum-told4 .given .1, c .take .ensures)
 
 pub take-spec : {M : Type 1} → statement M
 take-spec =
@@ -72,7 +72,7 @@ take-spec =
     read-requires
     play-requires
     enum-told-4
-    take-sysex-requires
+    take-requires
     returns
     returns-2
     returns-3

@@ -1,10 +1,10 @@
--- `device::mip` meets its contract: the verdict decides.
+-- `exclusive::mip` meets its contract: the verdict decides.
 -- Assumes nothing.
 use mathlib.Core.Path.{sym, ap, _∙_}
-use Rattle.device.specs.Device.{mipTaken}
+use Rattle.exclusive.specs.Exclusive.{mipTaken}
 use borrow.Author.Needs.{needs}
-use Rattle.device.proofs.mip.Statement.{statement}
-use Rattle.device.proofs.mip.Tie as tie
+use Rattle.exclusive.proofs.mip.Statement.{statement}
+use Rattle.exclusive.proofs.mip.Tie as tie
 
 judge-requires : tie.Need-judge-requires
 judge-requires c κs = search needs

@@ -1,9 +1,9 @@
--- `device::new_table` meets its contract: the table, and the generators under it.
+-- `exclusive::new_table` meets its contract: the table, and the generators under it.
 -- Assumes nothing.
-use Rattle.device.specs.Device.{newTable}
+use Rattle.exclusive.specs.Exclusive.{newTable}
 use borrow.Author.Needs.{needs}
-use Rattle.device.proofs.new_table.Statement.{statement}
-use Rattle.device.proofs.new_table.Tie as tie
+use Rattle.exclusive.proofs.new_table.Statement.{statement}
+use Rattle.exclusive.proofs.new_table.Tie as tie
 
 mask-requires : tie.Need-mask-requires
 mask-requires c κs = search needs

@@ -1,10 +1,10 @@
--- `device::take_sysex` meets its contract, by the kind of the SysEx.
+-- `exclusive::take` meets its contract, by the kind of the SysEx.
 -- Assumes nothing.
 use mathlib.Core.Path.{sym, ap, _∙_}
-use Rattle.device.specs.Device.{exclusive}
+use Rattle.exclusive.specs.Exclusive.{exclusive}
 use borrow.Author.Needs.{needs}
-use Rattle.device.proofs.take_sysex.Statement.{statement}
-use Rattle.device.proofs.take_sysex.Tie as tie
+use Rattle.exclusive.proofs.take.Statement.{statement}
+use Rattle.exclusive.proofs.take.Tie as tie
 
 kind-of-requires : tie.Need-kind-of-requires
 kind-of-requires c κs = search needs
@@ -42,8 +42,8 @@ returns-3 : tie.Need-returns-3
 unfolding exclusive
 returns-3 c = simp (sym (c .before .before .before .kind-of .ensures) ∙ c .before .enum-told3 .given .1, c .new2 .ensures)
 
-pub take-sysex-spec : {M : Type 1} → statement M
-take-sysex-spec =
+pub take-spec : {M : Type 1} → statement M
+take-spec =
     tie.close
     (tie.spec
     kind-of-requires

@@ -1,9 +1,9 @@
--- `playing::control` meets its contract: the notes by the pedal as it was, the numbers by the controller.
+-- `other_messages::control` meets its contract: the notes by the pedal as it was, the numbers by the controller.
 -- Assumes nothing.
-use Rattle.playing.specs.Playing.{playControl}
+use Rattle.other_messages.specs.OtherMessages.{playControl}
 use borrow.Author.Needs.{needs}
-use Rattle.playing.proofs.control.Statement.{statement}
-use Rattle.playing.proofs.control.Tie as tie
+use Rattle.other_messages.proofs.control.Statement.{statement}
+use Rattle.other_messages.proofs.control.Tie as tie
 
 pedal-down-requires : tie.Need-pedal-down-requires
 pedal-down-requires c κs = search needs

@@ -1,10 +1,10 @@
--- `playing::note_off` meets its contract: nothing on a rhythm channel, a change of state elsewhere.
+-- `other_messages::note_off` meets its contract: nothing on a rhythm channel, a change of state elsewhere.
 -- Assumes nothing.
 use mathlib.Core.Path.{sym, _∙_}
-use Rattle.playing.specs.Playing.{playNoteOff}
+use Rattle.other_messages.specs.OtherMessages.{playNoteOff}
 use borrow.Author.Needs.{needs}
-use Rattle.playing.proofs.note_off.Statement.{statement}
-use Rattle.playing.proofs.note_off.Tie as tie
+use Rattle.other_messages.proofs.note_off.Statement.{statement}
+use Rattle.other_messages.proofs.note_off.Tie as tie
 
 is-rhythm-requires : tie.Need-is-rhythm-requires
 is-rhythm-requires c κs = search needs

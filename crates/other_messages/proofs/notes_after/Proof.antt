@@ -1,9 +1,9 @@
--- `playing::notes_after` meets its contract, in the order of its tests.
+-- `other_messages::notes_after` meets its contract, in the order of its tests.
 -- Assumes nothing.
-use Rattle.playing.specs.Playing.{notesAfter}
+use Rattle.other_messages.specs.OtherMessages.{notesAfter}
 use borrow.Author.Needs.{needs}
-use Rattle.playing.proofs.notes_after.Statement.{statement}
-use Rattle.playing.proofs.notes_after.Tie as tie
+use Rattle.other_messages.proofs.notes_after.Statement.{statement}
+use Rattle.other_messages.proofs.notes_after.Tie as tie
 
 apply-requires : tie.Need-apply-requires
 apply-requires c κs = search needs

@@ -1,0 +1,2 @@
+-- What an ended SysEx does.
+pub mod Exclusive

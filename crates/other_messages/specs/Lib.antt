@@ -1,0 +1,2 @@
+-- What note-offs and controllers do.
+pub mod OtherMessages

@@ -1,0 +1,40 @@
+-- Document 01, "Other messages": what a note-off and a controller do to the sound module.
+use Prim.Native.Nat.{ℕ}
+use mathlib.Core.Bool.{Bool, _&&_, _||_, not}
+use lib.Dec.{eqb, ltb}
+use Rattle.loops.specs.Cases.{if_then_else_}
+use Rattle.channels.specs.Channel.{controlled}
+use Rattle.generators.specs.declared.Generators.{Generators}
+use Rattle.changes.specs.declared.Change.the-variants.{NoteOff, AllNotesOff, PedalUp}
+use Rattle.changes.specs.Changes.{changed}
+use Rattle.silence.specs.declared.Leaving.the-variants.{Channel}
+use Rattle.silence.specs.Silence.{silenced}
+use Rattle.instrument.specs.declared.Instrument.{Instrument}
+use Rattle.instrument.specs.Instrument.{channelOf, withChannel, withGenerators, pedalDown, isRhythm}
+
+-- "Note-off, or velocity 0 .. On channel 10 it changes nothing"
+unfoldable pub playNoteOff : Instrument → ℕ → ℕ → Instrument
+playNoteOff i c k = if isRhythm i c then i else withGenerators i (changed (NoteOff (pedalDown i c) c k) (i .generators))
+
+-- the controllers that end notes: "Hold below 64" and "121, value 0" lift the pedal; "120, value 0" silences; "123, value 0" is a note-off for each key
+abbrev pub liftsPedal : ℕ → ℕ → Bool
+liftsPedal n v = eqb n 64 && ltb v 64 || eqb n 121 && eqb v 0
+
+abbrev pub silencesAll : ℕ → ℕ → Bool
+silencesAll n v = eqb n 120 && eqb v 0
+
+abbrev pub endsAll : ℕ → ℕ → Bool
+endsAll n v = eqb n 123 && eqb v 0
+
+unfoldable pub notesAfter : Bool → ℕ → ℕ → ℕ → Generators → Generators
+notesAfter pedal c n v s =
+    if liftsPedal n v then changed (PedalUp c) s else
+    if silencesAll n v then silenced (Channel c) s else
+    if endsAll n v then changed (AllNotesOff pedal c) s else
+    s
+
+-- a controller: the channel's numbers and its notes; "on channel 10 it becomes releasing", whatever the pedal
+unfoldable pub playControl : Instrument → ℕ → ℕ → ℕ → Instrument
+playControl i c n v =
+    withGenerators (withChannel i c (controlled (channelOf i c) n v))
+    (notesAfter (pedalDown i c && not (isRhythm i c)) c n v (i .generators))
