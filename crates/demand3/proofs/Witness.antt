@@ -72,7 +72,7 @@ served-note b c k a s = go a (s .0 refl)
     go (NoNote n x y) e = clash e
     go (Number n) e = clash e
 
--- where a note of channel c still stands, no other may be put
+-- where a note of channel c still stands, no other may be put: channel c would be robbed
 pub robbed-unsafe : (b : Book) (c d k g : ℕ) (w : Was) → isOf c (remaining b d k g) ≡ true → Safe c b (Note d k g w) d k → ⊥
 robbed-unsafe b c d k g w e s = clash (sym (s .1) ∙ e)
 
@@ -101,7 +101,7 @@ turned-lost b c k Done u n = ap not u
 turned-lost b c k (NoNote m x y) u n = ap not u
 turned-lost b c k (Number m) u n = ap not u
 
--- where nothing is lost on an unmasked channel, the note has a generator that no other had
+-- where nothing is lost on an unmasked channel, the answer is note, and not stolen
 abbrev pub IsGiven : Answer → Type 0
 IsGiven a = (x : ℕ) × ((y : ℕ) × ((g : ℕ) × ((w : Was) × ((a ≡ Note x y g w) × (isStolen w ≡ false)))))
 
@@ -143,7 +143,7 @@ pub drum-served : isServed 10 36 (Live .answer (after Live (begin 1 0) (Report 0
 unfolding total begun stored oneDataByte completed dataByte opened ended statusByte split decode sharesFrom lookup silent fresh reported started heard byteTaken reportTaken taken keepMessage keep after
 drum-served = demand-3 1 0 drum .shared [] drum [] refl (tt, (tt, (tt, (tt, tt)))) 10 (0-of-1, (tt, (tt, (tt, ((λ e. 1-of-1), tt))))) .1 .1 .1 .0 .0 refl
 
--- ---- P 1, nothing played: channel 1 has no unit of it, and is served all the same, since a generator is idle
+-- ---- P 1, nothing played: channel 1 has share 0, and is answered note all the same, since the claim of fairness knows that no generator has a note
 
 abbrev first : Both
 first = after Live (begin 1 0) (Byte 0x90 ∷ Byte 60 ∷ [])
