@@ -169,7 +169,8 @@ static void channels(void)
 static void table(void)
 {
     static const uint8_t message[] = {0xF0, 0x7F, 0x7F, 0x0B, 0x01, 3, 5, 1, 7, 8, 60, 15, 64};
-    static const struct muntinorris_entry entries[] = {{4, 5}, {2, 7}, {9, 60}, {16, 64}};
+    static const struct muntinorris_entry entries[] = {
+        {.channel = 4, .value = 5}, {.channel = 2, .value = 7}, {.channel = 9, .value = 60}, {.channel = 16, .value = 64}};
     unsigned i;
 
     start(64, 5);

@@ -27,7 +27,7 @@ static void change(void *thing)
 {
     const char *at = getenv("AT");
 
-    ((unsigned char *)thing)[at ? atoi(at) : 0] ^= 1;
+    ((unsigned char *)thing)[at ? atoi(at) : 0] += 1;
 }
 
 struct muntinorris_answer muntinorris_start(struct muntinorris_device *d, uint8_t polyphony, uint8_t id)
