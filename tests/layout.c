@@ -2,9 +2,11 @@
  * Holds the record of include/muntinorris.h against the library's own. The header says where a field lies; the library shows it by what it writes and reads:
  *   - a start writes every byte of the record and none beside it, whatever was there before;
  *   - after a call the memory is what it was but for the fields that document 01 names, each at the header's place;
- *   - a value put at the header's place is what the next call reads.
- * With the word `print` it writes each struct's size and each field's place and size instead, for the Rust crate to be held against.
+ *   - a value put at the header's place is what the next call reads;
+ *   - each number, state and answer comes under the header's name for it.
+ * tests/c_and_rust compiles and runs it. With the word `print` it writes each struct's size and each field's place and size instead, for the Rust crate to be held against.
  */
+#include <stdarg.h>
 #include <stddef.h>
 #include <stdio.h>
 #include <string.h>
@@ -167,7 +169,8 @@ static void channels(void)
 static void table(void)
 {
     static const uint8_t message[] = {0xF0, 0x7F, 0x7F, 0x0B, 0x01, 3, 5, 1, 7, 8, 60, 15, 64};
-    static const struct muntinorris_entry entries[] = {{4, 5}, {2, 7}, {9, 60}, {16, 64}};
+    static const struct muntinorris_entry entries[] = {
+        {.channel = 4, .value = 5}, {.channel = 2, .value = 7}, {.channel = 9, .value = 60}, {.channel = 16, .value = 64}};
     unsigned i;
 
     start(64, 5);
@@ -257,10 +260,82 @@ static void ages_and_id(void)
     check(answer.what == MUNTINORRIS_DONE && device->instrument.id == 77, "id is read");
 }
 
-#define STRUCT(s) printf("%s %u\n", #s, (unsigned)sizeof(struct muntinorris_##s))
-#define FIELD(s, f) printf("%s.%s %u %u\n", #s, #f, (unsigned)offsetof(struct muntinorris_##s, f), (unsigned)sizeof(((struct muntinorris_##s *)0)->f))
+/* What the calls answer under each name of the header. */
+static void numbered(unsigned number, unsigned channel, unsigned key, const char *what)
+{
+    check(answer.what == MUNTINORRIS_NUMBER && answer.number == number && answer.channel == channel && answer.key == key && answer.generator == 0 && answer.was == 0, what);
+}
 
-static void print(void)
+static void play(uint8_t polyphony, const uint8_t *bytes, size_t length)
+{
+    size_t i;
+
+    start(polyphony, 5);
+    for (i = 0; i < length; i++)
+        feed(bytes[i]);
+}
+
+#define PLAY(polyphony, ...) play(polyphony, (const uint8_t[]){__VA_ARGS__}, sizeof((const uint8_t[]){__VA_ARGS__}))
+#define MIP 0xF0, 0x7F, 0x7F, 0x0B, 0x01
+
+static void numbers(void)
+{
+    start(0, 5);
+    numbered(MUNTINORRIS_BAD_POLYPHONY, 0, 0, "number 1");
+    start(4, 127);
+    numbered(MUNTINORRIS_BAD_ID, 0, 0, "number 2");
+    PLAY(4, 0x40);
+    numbered(MUNTINORRIS_STRAY_DATA, 0, 0, "number 3");
+    PLAY(4, 0xF0, 0x7F, 0x90);
+    numbered(MUNTINORRIS_SYSEX_CUT, 0, 0, "number 4");
+    PLAY(4, MIP, 0, 1, 1, 1, 2, 1, 3, 1, 4, 1, 5, 1, 6, 1, 7, 1, 8, 1, 9, 1, 10, 1, 11, 1, 12, 1, 13, 1, 14, 1, 15, 1, 0, 0xF7);
+    numbered(MUNTINORRIS_MIP_TOO_LONG, 0, 0, "number 5");
+    PLAY(4, MIP, 0xF7);
+    numbered(MUNTINORRIS_MIP_NO_PAIRS, 0, 0, "number 6");
+    PLAY(4, MIP, 16, 1, 0xF7);
+    numbered(MUNTINORRIS_MIP_BAD_CHANNEL, 0, 0, "number 7");
+    PLAY(4, MIP, 0, 1, 0, 1, 0xF7);
+    numbered(MUNTINORRIS_MIP_LISTED_TWICE, 0, 0, "number 8");
+    PLAY(4, MIP, 0, 2, 1, 1, 0xF7);
+    numbered(MUNTINORRIS_MIP_FALLING, 0, 0, "number 9");
+    PLAY(4, MIP, 0, 2, 0xF7, 0x91, 64, 64);
+    numbered(MUNTINORRIS_MASKED, 2, 64, "number 10");
+    PLAY(1, 0x99, 36, 64, 0x90, 60, 64);
+    numbered(MUNTINORRIS_NOTHING_TO_STEAL, 1, 60, "number 11");
+    answer = muntinorris_report(device, 1);
+    numbered(MUNTINORRIS_NO_SUCH_GENERATOR, 0, 0, "number 12");
+    answer = muntinorris_report(device, 0);
+    check(answer.what == MUNTINORRIS_DONE && muntinorris_generator(device, 0).state == MUNTINORRIS_STATE_IDLE, "a report, and the state idle");
+    answer = muntinorris_report(device, 0);
+    numbered(MUNTINORRIS_ALREADY_IDLE, 0, 0, "number 13");
+    check(muntinorris_mask(device, 0).number == MUNTINORRIS_NO_SUCH_CHANNEL && muntinorris_share(device, 0).number == MUNTINORRIS_NO_SUCH_CHANNEL, "number 14");
+    check(muntinorris_mask(device, 16).number == 0 && muntinorris_share(device, 16).number == 0, "no number for channel 16");
+    PLAY(1, 0x90, 60, 64, 0x99, 36, 64);
+    check(answer.what == MUNTINORRIS_NOTE && answer.number == 0 && answer.was == MUNTINORRIS_WAS_STOLEN, "a stolen generator");
+    PLAY(1, 0x90, 60, 64, 60, 0);
+    check(muntinorris_generator(device, 0).state == MUNTINORRIS_STATE_RELEASING, "the state releasing");
+}
+
+/* Of each struct its size, then of each field its place and size; the fields must fill it, so that none is left out here. */
+static size_t unlisted;
+#define STRUCT(s) (check(unlisted == 0, "every field of the struct before " #s " is listed"), unlisted = sizeof(struct muntinorris_##s), line("%s %u\n", #s, (unsigned)unlisted))
+#define FIELD(s, f) \
+    (unlisted -= sizeof(((struct muntinorris_##s *)0)->f), \
+     line("%s.%s %u %u\n", #s, #f, (unsigned)offsetof(struct muntinorris_##s, f), (unsigned)sizeof(((struct muntinorris_##s *)0)->f)))
+
+static int printing;
+
+static void line(const char *form, ...)
+{
+    va_list words;
+
+    va_start(words, form);
+    if (printing)
+        vprintf(form, words);
+    va_end(words);
+}
+
+static void layout(void)
 {
     STRUCT(device), FIELD(device, parser), FIELD(device, instrument);
     STRUCT(parser), FIELD(parser, status), FIELD(parser, count), FIELD(parser, bytes);
@@ -275,14 +350,15 @@ static void print(void)
     STRUCT(generator_answer), FIELD(generator_answer, number), FIELD(generator_answer, state), FIELD(generator_answer, channel), FIELD(generator_answer, key);
     STRUCT(mask_answer), FIELD(mask_answer, number), FIELD(mask_answer, masked);
     STRUCT(share_answer), FIELD(share_answer, number), FIELD(share_answer, share);
+    check(unlisted == 0, "every field of the last struct is listed");
 }
 
 int main(int argc, char **argv)
 {
-    if (argc > 1 && strcmp(argv[1], "print") == 0) {
-        print();
-        return 0;
-    }
+    printing = argc > 1 && strcmp(argv[1], "print") == 0;
+    layout();
+    if (printing)
+        return failures != 0;
     starts();
     fill(0xA5);
     parser();
@@ -290,6 +366,7 @@ int main(int argc, char **argv)
     table();
     generators();
     ages_and_id();
+    numbers();
     if (failures == 0)
         printf("the record of %u bytes is the library's\n", (unsigned)sizeof(struct muntinorris_device));
     return failures != 0;

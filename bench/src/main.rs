@@ -1,6 +1,6 @@
 //! `bench`: what the proved library costs, beside the second implementation, on the same streams in one run.
 //!
-//! Without arguments it prints times. `--count proved` and `--count paper` are for the script `count`, which runs them
+//! Without arguments it prints times, and fails if a target is missed or the sides answer differently. `--count proved` and `--count paper` are for the script `count`, which runs them
 //! under callgrind and prints instructions.
 
 mod counting;
@@ -14,7 +14,11 @@ fn main() -> ExitCode {
     let arguments: Vec<String> = std::env::args().skip(1).collect();
     let arguments: Vec<&str> = arguments.iter().map(String::as_str).collect();
     match arguments[..] {
-        [] => timing::run(),
+        [] if !timing::run() => {
+            eprintln!("bench: a target for the time is missed");
+            return ExitCode::FAILURE;
+        }
+        [] => {}
         ["--count", "proved"] => counting::run::<subject::Proved>(),
         ["--count", "paper"] => counting::run::<subject::Paper>(),
         _ => {

@@ -65,3 +65,48 @@ fn a_copy_is_a_device_of_its_own() {
     play(&mut device, &[62, 64]);
     assert_eq!(device, copy);
 }
+
+/// Each number that a byte can answer, under document 01's condition for it.
+#[test]
+fn numbers_of_bytes() {
+    let mip = [0xF0, 0x7F, 0x7F, 0x0B, 0x01];
+    let too_long = [0; 33];
+    let cases: [(u8, &[u8]); 5] = [(5, &too_long), (6, &[0]), (7, &[16, 1]), (8, &[0, 1, 0, 1]), (9, &[0, 2, 1, 1])];
+    for (number, pairs) in cases {
+        let (mut device, _) = Device::start(4, 0);
+        let answers = play(&mut device, &[&mip, pairs, &[0xF7]].concat());
+        assert_eq!(answers, [Answer::Number(number)]);
+    }
+    let (mut device, _) = Device::start(4, 0);
+    assert_eq!(play(&mut device, &[0x40, 0xF0, 0x7F, 0x90]), [Answer::Number(3), Answer::Number(4)]);
+}
+
+#[test]
+fn states_of_a_generator() {
+    let (mut device, _) = Device::start(1, 0);
+    let state = |device: &Device| device.generator(0).map(|g| g.state);
+    assert_eq!(state(&device), Ok(State::Idle));
+    play(&mut device, &[0x90, 60, 64]);
+    assert_eq!(state(&device), Ok(State::Held));
+    play(&mut device, &[0xB0, 64, 127, 0x90, 60, 0]);
+    assert_eq!(state(&device), Ok(State::Sustained));
+    play(&mut device, &[0xB0, 64, 0]);
+    assert_eq!(state(&device), Ok(State::Releasing));
+}
+
+/// The record that a caller may read, after calls that put a different number in each place that is looked at.
+#[test]
+fn the_record_is_readable() {
+    let (mut device, _) = Device::start(3, 5);
+    play(&mut device, &[0xC1, 50, 0xB1, 1, 31, 7, 32, 10, 33, 11, 34, 64, 35, 101, 0, 100, 0, 6, 7, 0xE1, 9, 70, 0x91, 60, 64, 61, 64, 0x92, 62]);
+    let (parser, instrument) = (device.parser(), device.instrument());
+    assert_eq!((parser.status, parser.count, parser.bytes[0]), (0x92, 1, 62));
+    assert_eq!((instrument.polyphony, instrument.id, instrument.table.count), (3, 5, 16));
+    assert_eq!((instrument.table.entries[0].channel, instrument.table.entries[0].value), (10, 3));
+    let channel = instrument.channels[1];
+    assert_eq!((channel.program, channel.modulation, channel.volume, channel.pan, channel.expression, channel.hold), (50, 31, 32, 33, 34, 35));
+    assert_eq!((channel.rpn_msb, channel.rpn_lsb, channel.bend_msb, channel.bend_lsb, channel.sensitivity), (0, 0, 70, 9, 7));
+    let generators = &instrument.generators;
+    assert_eq!((generators.state[1], generators.channel[1], generators.key[1]), (1, 2, 61));
+    assert_eq!((generators.ages.count, generators.ages.generator[1]), (2, 1));
+}

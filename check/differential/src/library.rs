@@ -38,6 +38,9 @@ pub struct Lent {
     before: [u8; GUARD],
     device: Device,
     after: [u8; GUARD],
+    /// The last status byte but for real-time ones, and the last data byte: what a parser that swallows must hold.
+    status: u8,
+    data: u8,
 }
 
 impl Lent {
@@ -46,6 +49,8 @@ impl Lent {
             before: [RUBBISH; GUARD],
             device: Device::memory(bytes),
             after: [RUBBISH; GUARD],
+            status: 0,
+            data: 0,
         }
     }
 
@@ -162,9 +167,15 @@ fn view_of(state: u8, channel: u8, key: u8) -> Option<GeneratorView> {
     (view.state != State::Idle || view == IDLE).then_some(view)
 }
 
-/// The parser's message under way. A System Common that swallows keeps its status here, of which only the bytes
-/// that are still missing can be observed.
-fn progress_of(parser: &proved::Parser) -> Given<Progress> {
+/// The parser's message under way. A System Common that swallows keeps here what the other side does not: the status
+/// and, after F2, a data byte. Bytes behind the count are 0, as the definitions have it.
+fn progress_of(parser: &proved::Parser, status: u8, data: u8) -> Given<Progress> {
+    let (_, unused) = split(&parser.bytes, parser.count);
+    let swallows = matches!(parser.status, 0xF1..=0xF3);
+    let swallowed = parser.status == status && (parser.count == 0 || parser.bytes[0] == data);
+    if unused.iter().any(|&byte| byte != 0) || swallows && !swallowed {
+        return Err(Malformed(format!("{parser:?}")));
+    }
     match (parser.status, parser.count) {
         (0, 0) => Ok(Progress::NoStatus),
         (status @ 0x80..=0xEF, 0) => Ok(Progress::Status(status)),
@@ -235,6 +246,11 @@ fn query_of<T>(number: u8, rest: &[u8], value: Option<T>) -> Given<Result<T, Num
 
 impl Implementation for Lent {
     fn byte(&mut self, byte: u8) -> Given<Answer> {
+        match byte {
+            0..=0x7F => self.data = byte,
+            0x80..=0xF7 => self.status = byte,
+            0xF8..=0xFF => {}
+        }
         answer_of(self.device.byte(byte))
     }
 
@@ -273,7 +289,7 @@ impl Implementation for Lent {
             channels: instrument.channels,
             generators: generators_of(&instrument.generators)?,
             oldest_first: ages_of(&instrument.generators.ages)?,
-            progress: progress_of(&self.device.parser)?,
+            progress: progress_of(&self.device.parser, self.status, self.data)?,
             sysex: sysex_of(&self.device.parser),
         })
     }

@@ -55,6 +55,7 @@ mistakes! {
     NewestReleasingTaken,
     ReleasingNeverTaken,
     ReleaseRenewsAge,
+    SilentKeepsAge,
     NewNoteNotCounted,
     HighestPriorityLoses,
     NewestStolen,
@@ -383,13 +384,19 @@ impl Plain {
     fn release(&mut self, g: usize) {
         self.generators[g].state = State::Releasing;
         if self.makes(Mistake::ReleaseRenewsAge) {
-            self.oldest_first.retain(|&other| usize::from(other) != g);
+            self.forget_age(g);
             self.oldest_first.push(g as u8);
         }
     }
 
     fn silence(&mut self, g: usize) {
         self.generators[g] = IDLE;
+        if !self.makes(Mistake::SilentKeepsAge) {
+            self.forget_age(g);
+        }
+    }
+
+    fn forget_age(&mut self, g: usize) {
         self.oldest_first.retain(|&other| usize::from(other) != g);
     }
 
@@ -439,7 +446,7 @@ impl Plain {
         let Some((g, was)) = self.choose(channel) else {
             return refused(Number::NoneToSteal);
         };
-        self.silence(g);
+        self.forget_age(g);
         self.oldest_first.push(g as u8);
         self.generators[g] = GeneratorView {
             state: State::Held,

@@ -9,7 +9,7 @@ use crate::reference;
 const WITHIN: u64 = 1_000_000;
 
 /// Mistakes that both sides make alike: the comparison cannot see them, the claims must.
-const SHARED: [(Mistake, &str); 8] = [
+const SHARED: [(Mistake, &str); 9] = [
     (Mistake::ReportIgnored, "the book has"),
     (Mistake::DrumNoteOffHeard, "the book has"),
     (Mistake::MaskedGeneratorsGoOn, "the book has"),
@@ -20,7 +20,8 @@ const SHARED: [(Mistake, &str); 8] = [
         Mistake::ReleasingNeverTaken,
         "although a generator was free",
     ),
-    (Mistake::ReleaseRenewsAge, "order of age"),
+    (Mistake::ReleaseRenewsAge, "its last note came later"),
+    (Mistake::SilentKeepsAge, "order of age: it has"),
 ];
 
 /// Runs all of it and says what was not found; nothing if all is well.

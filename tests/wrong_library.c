@@ -1,0 +1,95 @@
+/*
+ * A library that is wrong in one place: the proved one, whose functions are renamed to right_.., with one byte of what it gives or leaves changed. tests/faults links
+ * it where the proved one belongs and sees the differential test fail. The environment says where: WRONG is one of the words below, AT the byte of it.
+ */
+#include <stdlib.h>
+#include <string.h>
+#include "muntinorris.h"
+
+struct muntinorris_answer right_start(struct muntinorris_device *d, uint8_t polyphony, uint8_t id);
+struct muntinorris_answer right_byte(struct muntinorris_device *d, uint8_t byte);
+struct muntinorris_answer right_report(struct muntinorris_device *d, uint8_t generator);
+struct muntinorris_generator_answer right_generator(const struct muntinorris_device *d, uint8_t generator);
+struct muntinorris_mask_answer right_mask(const struct muntinorris_device *d, uint8_t channel);
+struct muntinorris_share_answer right_share(const struct muntinorris_device *d, uint8_t channel);
+
+static unsigned long calls;
+
+/* From the thousandth byte on, so that there is something in the record. */
+static int is_wrong(const char *word)
+{
+    const char *wrong = getenv("WRONG");
+
+    return calls >= 1000 && wrong && strcmp(wrong, word) == 0;
+}
+
+static void change(void *thing)
+{
+    const char *at = getenv("AT");
+
+    ((unsigned char *)thing)[at ? atoi(at) : 0] += 1;
+}
+
+struct muntinorris_answer muntinorris_start(struct muntinorris_device *d, uint8_t polyphony, uint8_t id)
+{
+    struct muntinorris_answer a = right_start(d, polyphony, id);
+
+    if (is_wrong("start"))
+        change(&a);
+    if (is_wrong("started"))
+        change(d);
+    return a;
+}
+
+struct muntinorris_answer muntinorris_byte(struct muntinorris_device *d, uint8_t byte)
+{
+    struct muntinorris_answer a = right_byte(d, byte);
+
+    calls++;
+    if (is_wrong("byte"))
+        change(&a);
+    if (is_wrong("record") || (is_wrong("swallowing") && d->parser.status >= 0xF1 && d->parser.status <= 0xF3 && d->parser.count == 1) ||
+        (is_wrong("rubbish") && d->instrument.polyphony > 64))
+        change(d);
+    if (is_wrong("stolen") && a.what == MUNTINORRIS_NOTE && a.was == MUNTINORRIS_WAS_STOLEN)
+        a.was = MUNTINORRIS_WAS_RELEASE;
+    return a;
+}
+
+struct muntinorris_answer muntinorris_report(struct muntinorris_device *d, uint8_t generator)
+{
+    struct muntinorris_answer a = right_report(d, generator);
+
+    if (is_wrong("report"))
+        change(&a);
+    if (is_wrong("reported"))
+        change(d);
+    return a;
+}
+
+struct muntinorris_generator_answer muntinorris_generator(const struct muntinorris_device *d, uint8_t generator)
+{
+    struct muntinorris_generator_answer a = right_generator(d, generator);
+
+    if (is_wrong("generator"))
+        change(&a);
+    return a;
+}
+
+struct muntinorris_mask_answer muntinorris_mask(const struct muntinorris_device *d, uint8_t channel)
+{
+    struct muntinorris_mask_answer a = right_mask(d, channel);
+
+    if (is_wrong("mask"))
+        change(&a);
+    return a;
+}
+
+struct muntinorris_share_answer muntinorris_share(const struct muntinorris_device *d, uint8_t channel)
+{
+    struct muntinorris_share_answer a = right_share(d, channel);
+
+    if (is_wrong("share"))
+        change(&a);
+    return a;
+}
