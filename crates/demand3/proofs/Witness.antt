@@ -1,5 +1,6 @@
 -- Demand 3 bites. First its words, for any book and answer: what keeps within a share, what ends a run, what is served, robbed and lost is no less than the paper
--- says. Then short lists, where `demand-3` alone, not the device, says what becomes of a note. A claim emptied behind its name would not give these facts.
+-- says. Then short lists, where `demand-3` alone, not the device, says what becomes of a note. A claim emptied behind its name would not give these facts. Lists in which
+-- notes are held already take longer to compute and stand in crate `witnesses`, so that they are computed once and not for each wrong answer.
 -- Assumes nothing.
 use mathlib.Core.Path.{_≡_, refl, sym, ap, _∙_}
 use mathlib.Core.Bool.{Bool, true, false, not, _&&_, _||_}
@@ -8,34 +9,24 @@ use Prim.Native.Nat.{ℕ, _≤_, _<_}
 use native.Mathlib.Omega.{arith}
 use borrow.Author.Tests.{eqb-true}
 use lib.Dec.{eqb}
-use Rattle.loops.specs.Passes.{upTo, total, filterBy, firstOf, padded}
+use Rattle.loops.specs.Passes.{total}
 use Rattle.splitter.specs.Split.{begun, stored, oneDataByte, completed, dataByte, opened, ended, statusByte, split}
-use Rattle.message.specs.declared.Message.{Message}
 use Rattle.message.specs.Message.{decode}
 use Rattle.table.specs.declared.Entry.{Entry}
-use Rattle.table.specs.Table.{tableOf, startTable}
 use Rattle.shares.specs.declared.Share.the-variants.{Units}
-use Rattle.shares.specs.Shares.{sharesFrom, lookup, shareOf, isMasked}
-use Rattle.drums.specs.Drums.{groupOf, excludes}
-use Rattle.ages.specs.Ages.{agesOf, newest}
-use Rattle.generators.specs.Generators.{at, isIdle, assigned, silent}
-use Rattle.changes.specs.Changes.{changes, stateAfter, changed}
-use Rattle.silence.specs.Silence.{isAmong, leaves, silenced}
-use Rattle.choice.specs.Choice.{lowestIdle, wanted, oldest, busyCount}
-use Rattle.stealing.specs.Stealing.{overShare, stealFrom}
+use Rattle.shares.specs.Shares.{sharesFrom, lookup, isMasked}
+use Rattle.generators.specs.Generators.{at, isIdle, silent}
 use Rattle.allocation.specs.declared.Was.{Was}
 use Rattle.allocation.specs.declared.Was.the-variants.{Stolen}
-use Rattle.allocation.specs.Allocation.{cleared, step5, choice, noteOn}
-use Rattle.instrument.specs.Instrument.{fresh, isRhythm}
+use Rattle.instrument.specs.Instrument.{fresh}
 use Rattle.playing.specs.declared.Answer.{Answer}
 use Rattle.playing.specs.declared.Answer.the-variants.{Nothing, Done, Note, NoNote, Number}
-use Rattle.playing.specs.Playing.{playNoteOn, played}
 use Rattle.reports.specs.Reports.{reported}
 use Rattle.device.specs.Device.{started, heard, byteTaken}
 use Rattle.events.specs.declared.Event.{Event}
 use Rattle.events.specs.declared.Event.the-variants.{Byte, Report}
 use Rattle.events.specs.Events.{taken, reportTaken}
-use Rattle.demand3.specs.Demand3.{Book, isNote, isOf, isEnded, remaining, keepMessage, Heard, nothing, message, newTable, reset, report, keep, IsWithin, stolenNote, isStolen, isLoss, isServed, Fair, Safe, IsInRun, System, after, IsExact, Always, Both, Live, begin}
+use Rattle.demand3.specs.Demand3.{Book, isNote, isOf, isEnded, remaining, keepMessage, Heard, nothing, message, newTable, reset, report, keep, IsWithin, isStolen, isLoss, isServed, Fair, Safe, IsInRun, System, after, IsExact, Always, Each, IsRun, StaysWithin, Demand3, Both, Live, begin}
 use Rattle.demand3.specs.Demand3 as of-book
 use Rattle.demand3.proofs.Bytes.{demand-3}
 
@@ -55,6 +46,11 @@ in-run (message m) t r = tt
 in-run (newTable x) t r = absurd (t x refl)
 in-run reset t r = absurd (r refl)
 in-run (report g) t r = tt
+
+-- a run is any part of the list, with what came before it
+pub run-anywhere : (S : System) (s : S .State) (l : List (S .Event)) → Demand3 S s l → (pre run post : List (S .Event)) → l ≡ pre ++ (run ++ post) → IsRun S (after S s pre) run
+    → (c : ℕ) → StaysWithin S c (after S s pre) run → Each S (Safe c) (after S s pre) run
+run-anywhere S s l d = d .shared
 
 -- who is served is answered note, with channel and key
 pub served-note : (b : Book) (c k : ℕ) (a : Answer) → Safe c b a c k → (g : ℕ) × ((w : Was) × (a ≡ Note c k g w))
@@ -125,15 +121,6 @@ not-lost b c k (Number n) u e = clash (sym e ∙ ap not u)
 1-of-1 : 1 ≤ 1
 1-of-1 = omega arith
 
-1-of-2 : 1 ≤ 2
-1-of-2 = omega arith
-
-2-of-2 : 2 ≤ 2
-2-of-2 = omega arith
-
-1-not-10 : _≡_ {A = ℕ} 1 10 → ⊥
-1-not-10 e = omega arith
-
 -- ---- P 1, and channel 10 has it: a drum after a report is served
 
 abbrev pub drum : List Event
@@ -155,46 +142,6 @@ idle-generator-given = go (isLoss (first .book) 1 60 (Live .answer first (Byte 6
     go : (l : Bool) → isLoss (first .book) 1 60 (Live .answer first (Byte 64)) ≡ l → IsGiven (Live .answer first (Byte 64))
     go true e = clash (demand-3 1 0 (Byte 0x90 ∷ Byte 60 ∷ Byte 64 ∷ []) .fair .1 .1 .0 e 0 1-of-1 .0)
     go false e = not-lost (first .book) 1 60 (Live .answer first (Byte 64)) refl e
-
--- ---- P 1, a note held on channel 1: a drum steals it
-
-abbrev theft : Both
-theft = after Live (begin 1 0) (Byte 0x90 ∷ Byte 60 ∷ Byte 64 ∷ Byte 0x99 ∷ Byte 36 ∷ [])
-
--- the loss does happen, and the claim gives what it stands on: generator 0 had a note, and not one that the drum ends
-pub theft-when-full : (isLoss (theft .book) 10 36 (Live .answer theft (Byte 64)) ≡ true) × ((isNote (theft .book .notes 0) ≡ true) × (isEnded true 10 36 (theft .book .notes 0) ≡ false))
-unfolding upTo total filterBy firstOf padded begun stored oneDataByte completed dataByte opened ended statusByte split decode tableOf startTable sharesFrom lookup shareOf groupOf excludes agesOf newest assigned silent changes stateAfter changed isAmong leaves silenced lowestIdle wanted oldest busyCount overShare stealFrom cleared step5 choice noteOn fresh isRhythm playNoteOn played started heard byteTaken taken keepMessage keep after
-theft-when-full =
-    let lost : isLoss (theft .book) 10 36 (Live .answer theft (Byte 64)) ≡ true = refl in
-    (lost, demand-3 1 0 (Byte 0x90 ∷ Byte 60 ∷ Byte 64 ∷ Byte 0x99 ∷ Byte 36 ∷ Byte 64 ∷ []) .fair .1 .1 .1 .1 .1 .0 lost 0 1-of-1)
-
--- ---- runs that bring a drum along: nothing is forgotten where they start
-
-abbrev pub first-drum : List Event
-first-drum = Byte 0x99 ∷ Byte 36 ∷ Byte 64 ∷ []
-
--- P 1: the drum has the only generator, and a note on channel 1 finds none; whatever is done, the drum isn't stolen
-abbrev no-room : Both
-no-room = after Live (begin 1 0) (first-drum ++ (Byte 0x90 ∷ Byte 60 ∷ []))
-
-pub drum-kept : isOf 10 (stolenNote (no-room .book) 1 60 (Live .answer no-room (Byte 64))) ≡ false
-unfolding upTo total filterBy firstOf padded begun stored oneDataByte completed dataByte opened ended statusByte split decode tableOf startTable sharesFrom lookup shareOf groupOf excludes agesOf newest assigned silent changes stateAfter changed isAmong leaves silenced lowestIdle cleared choice noteOn fresh isRhythm playNoteOn played started heard byteTaken taken keepMessage keep after
-drum-kept =
-    demand-3 1 0 (first-drum ++ (Byte 0x90 ∷ Byte 60 ∷ Byte 64 ∷ Report 0 ∷ [])) .shared first-drum (Byte 0x90 ∷ Byte 60 ∷ Byte 64 ∷ []) (Report 0 ∷ []) refl (tt, (tt, (tt, tt)))
-    10 (1-of-1, (tt, (tt, ((λ e. absurd (1-not-10 e)), tt)))) .1 .1 .0 .1
-
--- P 2: channel 1 takes the second generator, and then channel 10 wants a second drum, which with the first is all of its share; it is served
-abbrev all-taken : Both
-all-taken = after Live (begin 2 0) (first-drum ++ (Byte 0x90 ∷ Byte 60 ∷ Byte 64 ∷ Byte 0x99 ∷ Byte 38 ∷ []))
-
-abbrev pub run : List Event
-run = Byte 0x90 ∷ Byte 60 ∷ Byte 64 ∷ Byte 0x99 ∷ Byte 38 ∷ Byte 64 ∷ []
-
-pub second-drum-served : isServed 10 38 (Live .answer all-taken (Byte 64)) ≡ true
-unfolding upTo total filterBy firstOf padded begun stored oneDataByte completed dataByte opened ended statusByte split decode tableOf startTable sharesFrom lookup shareOf groupOf excludes agesOf newest assigned silent changes stateAfter changed isAmong leaves silenced lowestIdle cleared choice noteOn fresh isRhythm playNoteOn played started heard byteTaken taken keepMessage keep after
-second-drum-served =
-    demand-3 2 0 (first-drum ++ (run ++ (Report 0 ∷ []))) .shared first-drum run (Report 0 ∷ []) refl (tt, (tt, (tt, (tt, (tt, (tt, tt)))))) 10
-    (1-of-2, (tt, (tt, ((λ e. absurd (1-not-10 e)), (tt, (tt, ((λ e. 2-of-2), tt))))))) .1 .1 .1 .1 .1 .0 .0 refl
 
 -- ---- the end of any list
 

@@ -1,0 +1,2 @@
+-- Demand 3 at work.
+pub mod Lists

@@ -1,0 +1,83 @@
+-- Demand 3 bites, in short lists where notes are held already: a theft that is allowed, and runs that bring a drum along. What stood there before is computed from the
+-- definitions; what becomes of the last note `demand-3` alone says.
+-- Assumes nothing.
+use mathlib.Core.Path.{_≡_, refl}
+use mathlib.Core.Bool.{true, false}
+use mathlib.Core.List.{List, [], _∷_, _++_}
+use Prim.Native.Nat.{ℕ, _≤_}
+use native.Mathlib.Omega.{arith}
+use Rattle.loops.specs.Passes.{upTo, total, filterBy, firstOf, padded}
+use Rattle.splitter.specs.Split.{begun, stored, oneDataByte, completed, dataByte, opened, ended, statusByte, split}
+use Rattle.message.specs.Message.{decode}
+use Rattle.table.specs.Table.{tableOf, startTable}
+use Rattle.shares.specs.Shares.{sharesFrom, lookup, shareOf}
+use Rattle.drums.specs.Drums.{groupOf, excludes}
+use Rattle.ages.specs.Ages.{agesOf, newest}
+use Rattle.generators.specs.Generators.{assigned, silent}
+use Rattle.changes.specs.Changes.{changes, stateAfter, changed}
+use Rattle.silence.specs.Silence.{isAmong, leaves, silenced}
+use Rattle.choice.specs.Choice.{lowestIdle, wanted, oldest, busyCount}
+use Rattle.stealing.specs.Stealing.{overShare, stealFrom}
+use Rattle.allocation.specs.Allocation.{cleared, step5, choice, noteOn}
+use Rattle.instrument.specs.Instrument.{fresh, isRhythm}
+use Rattle.playing.specs.Playing.{playNoteOn, played}
+use Rattle.device.specs.Device.{started, heard, byteTaken}
+use Rattle.events.specs.declared.Event.{Event}
+use Rattle.events.specs.declared.Event.the-variants.{Byte, Report}
+use Rattle.events.specs.Events.{taken}
+use Rattle.demand3.specs.Demand3.{isNote, isOf, isEnded, keepMessage, keep, stolenNote, isLoss, isServed, after, Both, Live, begin}
+use Rattle.demand3.proofs.Bytes.{demand-3}
+
+-- ---- arithmetic on numerals, apart from the lists: what a tactic finds in reach it computes
+
+1-of-1 : 1 ≤ 1
+1-of-1 = omega arith
+
+1-of-2 : 1 ≤ 2
+1-of-2 = omega arith
+
+2-of-2 : 2 ≤ 2
+2-of-2 = omega arith
+
+1-not-10 : _≡_ {A = ℕ} 1 10 → ⊥
+1-not-10 e = omega arith
+
+-- ---- P 1, a note held on channel 1: a drum steals it
+
+abbrev theft : Both
+theft = after Live (begin 1 0) (Byte 0x90 ∷ Byte 60 ∷ Byte 64 ∷ Byte 0x99 ∷ Byte 36 ∷ [])
+
+-- the loss does happen, and the claim gives what it stands on: generator 0 had a note, and not one that the drum ends
+pub theft-when-full : (isLoss (theft .book) 10 36 (Live .answer theft (Byte 64)) ≡ true) × ((isNote (theft .book .notes 0) ≡ true) × (isEnded true 10 36 (theft .book .notes 0) ≡ false))
+unfolding upTo total filterBy firstOf padded begun stored oneDataByte completed dataByte opened ended statusByte split decode tableOf startTable sharesFrom lookup shareOf groupOf excludes agesOf newest assigned silent changes stateAfter changed isAmong leaves silenced lowestIdle wanted oldest busyCount overShare stealFrom cleared step5 choice noteOn fresh isRhythm playNoteOn played started heard byteTaken taken keepMessage keep after
+theft-when-full =
+    let lost : isLoss (theft .book) 10 36 (Live .answer theft (Byte 64)) ≡ true = refl in
+    (lost, demand-3 1 0 (Byte 0x90 ∷ Byte 60 ∷ Byte 64 ∷ Byte 0x99 ∷ Byte 36 ∷ Byte 64 ∷ []) .fair .1 .1 .1 .1 .1 .0 lost 0 1-of-1)
+
+-- ---- runs that bring a drum along: nothing is forgotten where they start
+
+abbrev pub first-drum : List Event
+first-drum = Byte 0x99 ∷ Byte 36 ∷ Byte 64 ∷ []
+
+-- P 1: the drum has the only generator, and a note on channel 1 finds none; whatever is done, the drum isn't stolen
+abbrev no-room : Both
+no-room = after Live (begin 1 0) (first-drum ++ (Byte 0x90 ∷ Byte 60 ∷ []))
+
+pub drum-kept : isOf 10 (stolenNote (no-room .book) 1 60 (Live .answer no-room (Byte 64))) ≡ false
+unfolding upTo total filterBy firstOf padded begun stored oneDataByte completed dataByte opened ended statusByte split decode tableOf startTable sharesFrom lookup shareOf groupOf excludes agesOf newest assigned silent changes stateAfter changed isAmong leaves silenced lowestIdle cleared choice noteOn fresh isRhythm playNoteOn played started heard byteTaken taken keepMessage keep after
+drum-kept =
+    demand-3 1 0 (first-drum ++ (Byte 0x90 ∷ Byte 60 ∷ Byte 64 ∷ Report 0 ∷ [])) .shared first-drum (Byte 0x90 ∷ Byte 60 ∷ Byte 64 ∷ []) (Report 0 ∷ []) refl (tt, (tt, (tt, tt)))
+    10 (1-of-1, (tt, (tt, ((λ e. absurd (1-not-10 e)), tt)))) .1 .1 .0 .1
+
+-- P 2: channel 1 takes the second generator, and then channel 10 wants a second drum, which with the first is all of its share; it is served
+abbrev all-taken : Both
+all-taken = after Live (begin 2 0) (first-drum ++ (Byte 0x90 ∷ Byte 60 ∷ Byte 64 ∷ Byte 0x99 ∷ Byte 38 ∷ []))
+
+abbrev pub run : List Event
+run = Byte 0x90 ∷ Byte 60 ∷ Byte 64 ∷ Byte 0x99 ∷ Byte 38 ∷ Byte 64 ∷ []
+
+pub second-drum-served : isServed 10 38 (Live .answer all-taken (Byte 64)) ≡ true
+unfolding upTo total filterBy firstOf padded begun stored oneDataByte completed dataByte opened ended statusByte split decode tableOf startTable sharesFrom lookup shareOf groupOf excludes agesOf newest assigned silent changes stateAfter changed isAmong leaves silenced lowestIdle cleared choice noteOn fresh isRhythm playNoteOn played started heard byteTaken taken keepMessage keep after
+second-drum-served =
+    demand-3 2 0 (first-drum ++ (run ++ (Report 0 ∷ []))) .shared first-drum run (Report 0 ∷ []) refl (tt, (tt, (tt, (tt, (tt, (tt, tt)))))) 10
+    (1-of-2, (tt, (tt, ((λ e. absurd (1-not-10 e)), (tt, (tt, ((λ e. 2-of-2), tt))))))) .1 .1 .1 .1 .1 .0 .0 refl
