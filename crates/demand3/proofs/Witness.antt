@@ -1,6 +1,6 @@
 -- Demand 3 bites. First its words, for any book and answer: what keeps within a share, what ends a run, what is served, robbed and lost is no less than the paper
--- says. Then short lists, where `demand-3` alone, not the device, says what becomes of a note. A claim emptied behind its name would not give these facts. Lists in which
--- notes are held already take longer to compute and stand in crate `witnesses`, so that they are computed once and not for each wrong answer.
+-- says; a claim emptied behind its name would not give these facts. Then the end of any list. Short lists in which `demand-3` alone, not the device, says what becomes of a
+-- note stand in crate `witnesses`, so that they are computed once and not for each wrong answer.
 -- Assumes nothing.
 use mathlib.Core.Path.{_≡_, refl, sym, ap, _∙_}
 use mathlib.Core.Bool.{Bool, true, false, not, _&&_, _||_}
@@ -9,30 +9,22 @@ use Prim.Native.Nat.{ℕ, _≤_, _<_}
 use native.Mathlib.Omega.{arith}
 use borrow.Author.Tests.{eqb-true}
 use lib.Dec.{eqb}
-use Rattle.loops.specs.Passes.{total}
-use Rattle.splitter.specs.Split.{begun, stored, oneDataByte, completed, dataByte, opened, ended, statusByte, split}
-use Rattle.message.specs.Message.{decode}
 use Rattle.table.specs.declared.Entry.{Entry}
 use Rattle.shares.specs.declared.Share.the-variants.{Units}
-use Rattle.shares.specs.Shares.{sharesFrom, lookup, isMasked}
-use Rattle.generators.specs.Generators.{at, isIdle, silent}
+use Rattle.shares.specs.Shares.{isMasked}
+use Rattle.generators.specs.Generators.{at, isIdle}
 use Rattle.allocation.specs.declared.Was.{Was}
 use Rattle.allocation.specs.declared.Was.the-variants.{Stolen}
-use Rattle.instrument.specs.Instrument.{fresh}
 use Rattle.playing.specs.declared.Answer.{Answer}
 use Rattle.playing.specs.declared.Answer.the-variants.{Nothing, Done, Note, NoNote, Number}
-use Rattle.reports.specs.Reports.{reported}
-use Rattle.device.specs.Device.{started, heard, byteTaken}
 use Rattle.events.specs.declared.Event.{Event}
-use Rattle.events.specs.declared.Event.the-variants.{Byte, Report}
-use Rattle.events.specs.Events.{taken, reportTaken}
-use Rattle.demand3.specs.Demand3.{Book, isNote, isOf, isEnded, remaining, keepMessage, Heard, nothing, message, newTable, reset, report, keep, IsWithin, isStolen, isLoss, isServed, Fair, Safe, IsInRun, System, after, IsExact, Always, Each, IsRun, StaysWithin, Demand3, Both, Live, begin}
+use Rattle.demand3.specs.Demand3.{Book, isNote, isOf, isEnded, remaining, Heard, nothing, message, newTable, reset, report, IsWithin, isStolen, isLoss, isServed, Fair, Safe, IsInRun, System, after, IsExact, Always, Each, IsRun, StaysWithin, Demand3, Live, begin}
 use Rattle.demand3.specs.Demand3 as of-book
 use Rattle.demand3.proofs.Bytes.{demand-3}
 
 -- ---- the words, whatever the device
 
-clash : {A : Type 0} → _≡_ {A = Bool} false true → A
+pub clash : {A : Type 0} → _≡_ {A = Bool} false true → A
 clash e = absurd (let z : _≡_ {A = ℕ} 0 1 = cc in omega arith)
 
 -- all of the share may be used
@@ -111,37 +103,6 @@ not-lost b c k Nothing u e = clash (sym e ∙ ap not u)
 not-lost b c k Done u e = clash (sym e ∙ ap not u)
 not-lost b c k (NoNote n x y) u e = clash (sym e ∙ ap not u)
 not-lost b c k (Number n) u e = clash (sym e ∙ ap not u)
-
--- ---- lists
-
--- arithmetic on numerals, apart from the lists: what a tactic finds in reach it computes
-0-of-1 : 0 ≤ 1
-0-of-1 = omega arith
-
-1-of-1 : 1 ≤ 1
-1-of-1 = omega arith
-
--- ---- P 1, and channel 10 has it: a drum after a report is served
-
-abbrev pub drum : List Event
-drum = Report 0 ∷ Byte 0x99 ∷ Byte 36 ∷ Byte 64 ∷ []
-
-pub drum-served : isServed 10 36 (Live .answer (after Live (begin 1 0) (Report 0 ∷ Byte 0x99 ∷ Byte 36 ∷ [])) (Byte 64)) ≡ true
-unfolding total begun stored oneDataByte completed dataByte opened ended statusByte split decode sharesFrom lookup silent fresh reported started heard byteTaken reportTaken taken keepMessage keep after
-drum-served = demand-3 1 0 drum .shared [] drum [] refl (tt, (tt, (tt, (tt, tt)))) 10 (0-of-1, (tt, (tt, (tt, ((λ e. 1-of-1), tt))))) .1 .1 .1 .0 .0 refl
-
--- ---- P 1, nothing played: channel 1 has share 0, and is answered note all the same, since the claim of fairness knows that no generator has a note
-
-abbrev first : Both
-first = after Live (begin 1 0) (Byte 0x90 ∷ Byte 60 ∷ [])
-
-pub idle-generator-given : IsGiven (Live .answer first (Byte 64))
-unfolding begun stored oneDataByte completed dataByte opened ended statusByte split decode sharesFrom lookup fresh started heard byteTaken taken keep after
-idle-generator-given = go (isLoss (first .book) 1 60 (Live .answer first (Byte 64))) refl
-  where
-    go : (l : Bool) → isLoss (first .book) 1 60 (Live .answer first (Byte 64)) ≡ l → IsGiven (Live .answer first (Byte 64))
-    go true e = clash (demand-3 1 0 (Byte 0x90 ∷ Byte 60 ∷ Byte 64 ∷ []) .fair .1 .1 .0 e 0 1-of-1 .0)
-    go false e = not-lost (first .book) 1 60 (Live .answer first (Byte 64)) refl e
 
 -- ---- the end of any list
 

@@ -1,8 +1,8 @@
--- Demand 3 bites, in short lists where notes are held already: a theft that is allowed, and runs that bring a drum along. What stood there before is computed from the
--- definitions; what becomes of the last note `demand-3` alone says.
+-- Demand 3 bites, in short lists: a drum is served, an idle generator is given, a theft that is allowed, and runs that bring a drum along. What stood there before is computed
+-- from the definitions; what becomes of the last note `demand-3` alone says.
 -- Assumes nothing.
 use mathlib.Core.Path.{_≡_, refl}
-use mathlib.Core.Bool.{true, false}
+use mathlib.Core.Bool.{true, false, Bool}
 use mathlib.Core.List.{List, [], _∷_, _++_}
 use Prim.Native.Nat.{ℕ, _≤_}
 use native.Mathlib.Omega.{arith}
@@ -24,11 +24,16 @@ use Rattle.playing.specs.Playing.{playNoteOn, played}
 use Rattle.device.specs.Device.{started, heard, byteTaken}
 use Rattle.events.specs.declared.Event.{Event}
 use Rattle.events.specs.declared.Event.the-variants.{Byte, Report}
-use Rattle.events.specs.Events.{taken}
+use Rattle.events.specs.Events.{taken, reportTaken}
 use Rattle.demand3.specs.Demand3.{isNote, isOf, isEnded, keepMessage, keep, stolenNote, isLoss, isServed, after, Both, Live, begin}
 use Rattle.demand3.proofs.Bytes.{demand-3}
+use Rattle.reports.specs.Reports.{reported}
+use Rattle.demand3.proofs.Witness.{clash, IsGiven, not-lost}
 
 -- ---- arithmetic on numerals, apart from the lists: what a tactic finds in reach it computes
+
+0-of-1 : 0 ≤ 1
+0-of-1 = omega arith
 
 1-of-1 : 1 ≤ 1
 1-of-1 = omega arith
@@ -41,6 +46,28 @@ use Rattle.demand3.proofs.Bytes.{demand-3}
 
 1-not-10 : _≡_ {A = ℕ} 1 10 → ⊥
 1-not-10 e = omega arith
+
+-- ---- P 1, and channel 10 has it: a drum after a report is served
+
+abbrev pub drum : List Event
+drum = Report 0 ∷ Byte 0x99 ∷ Byte 36 ∷ Byte 64 ∷ []
+
+pub drum-served : isServed 10 36 (Live .answer (after Live (begin 1 0) (Report 0 ∷ Byte 0x99 ∷ Byte 36 ∷ [])) (Byte 64)) ≡ true
+unfolding total begun stored oneDataByte completed dataByte opened ended statusByte split decode sharesFrom lookup silent fresh reported started heard byteTaken reportTaken taken keepMessage keep after
+drum-served = demand-3 1 0 drum .shared [] drum [] refl (tt, (tt, (tt, (tt, tt)))) 10 (0-of-1, (tt, (tt, (tt, ((λ e. 1-of-1), tt))))) .1 .1 .1 .0 .0 refl
+
+-- ---- P 1, nothing played: channel 1 has share 0, and is answered note all the same, since the claim of fairness knows that no generator has a note
+
+abbrev first : Both
+first = after Live (begin 1 0) (Byte 0x90 ∷ Byte 60 ∷ [])
+
+pub idle-generator-given : IsGiven (Live .answer first (Byte 64))
+unfolding begun stored oneDataByte completed dataByte opened ended statusByte split decode sharesFrom lookup fresh started heard byteTaken taken keep after
+idle-generator-given = go (isLoss (first .book) 1 60 (Live .answer first (Byte 64))) refl
+  where
+    go : (l : Bool) → isLoss (first .book) 1 60 (Live .answer first (Byte 64)) ≡ l → IsGiven (Live .answer first (Byte 64))
+    go true e = clash (demand-3 1 0 (Byte 0x90 ∷ Byte 60 ∷ Byte 64 ∷ []) .fair .1 .1 .0 e 0 1-of-1 .0)
+    go false e = not-lost (first .book) 1 60 (Live .answer first (Byte 64)) refl e
 
 -- ---- P 1, a note held on channel 1: a drum steals it
 
