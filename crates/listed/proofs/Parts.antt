@@ -19,7 +19,6 @@ use Rattle.loops.specs.Cases.{if_then_else_}
 use Rattle.listed.specs.declared.Awaits.{Awaits}
 use Rattle.listed.specs.declared.Awaits.the-variants.{Polyphony, Id, Midi, Nothing}
 use Rattle.listed.specs.declared.Lister.{Lister}
-use Rattle.listed.specs.declared.Listed.{Listed}
 use Rattle.listed.specs.Listing.{Lists, isRefused, startLine, midiLine, lineBy, line, after, listedBy, afterAll}
 
 pub after-parts : (l : Lister) (xs ys : List ℕ) → afterAll l (xs ++ ys) ≡ afterAll (afterAll l xs) ys
@@ -44,11 +43,11 @@ module _ (l : Lister) (bs : List ℕ) (i : ℕ) where
       rw (add-one i, take-suc bs i 0 h)
       (listed-parts l (take i bs) (getD bs i 0 ∷ []) ∙ rw (append-nil (line (afterAll l (take i bs)) (getD bs i 0))))
 
-  pub one-more : (k : Lister) (r : Listed) {p q s : List ℕ} {used : ℕ} → i < length bs → k ≡ afterAll l (take i bs) → Put p 0 (listedBy l (take i bs)) used q → Lists q used (line k (getD bs i 0)) (after k (getD bs i 0)) r s → (r .lister ≡ afterAll l (take (i + 1) bs)) × Put p 0 (listedBy l (take (i + 1) bs)) (r .used) s
+  pub one-more : (k r : Lister) {p q s : List ℕ} {used next : ℕ} → i < length bs → k ≡ afterAll l (take i bs) → Put p 0 (listedBy l (take i bs)) used q → Lists q used (line k (getD bs i 0)) (after k (getD bs i 0)) r next s → (r ≡ afterAll l (take (i + 1) bs)) × Put p 0 (listedBy l (take (i + 1) bs)) next s
   one-more k r h e a b = (b .kept ∙ rw (e, next-after h), rw (next-listed h) (joined a (rw e at (b .put))))
 
-  pub no-more : (k : Lister) (used : ℕ) {p q : List ℕ} → length bs ≤ i → k ≡ afterAll l (take i bs) → Put p 0 (listedBy l (take i bs)) used q → Lists p 0 (listedBy l bs) (afterAll l bs) (record { lister = k; used = used }) q
-  no-more k used h e a = record { kept = rw (take-all i bs h) at e; put = rw (take-all i bs h) at a }
+  pub no-more : (k : Lister) {p q : List ℕ} {used : ℕ} → length bs ≤ i → k ≡ afterAll l (take i bs) → Put p 0 (listedBy l (take i bs)) used q → Lists p 0 (listedBy l bs) (afterAll l bs) k used q
+  no-more k h e a = record { kept = rw (take-all i bs h) at e; put = rw (take-all i bs h) at a }
 
 start-length : (o : Output) → length (startLine o) ≤ 128
 unfolding startLine

@@ -15,12 +15,11 @@ use Rattle.device.specs.Device.{freshDevice, started, byteTaken}
 use Rattle.listed.specs.declared.Awaits.{Awaits}
 use Rattle.listed.specs.declared.Awaits.the-variants.{Polyphony, Id, Midi, Nothing}
 use Rattle.listed.specs.declared.Lister.{Lister}
-use Rattle.listed.specs.declared.Listed.{Listed}
 
--- a text listed at a place of a page, and what is kept behind it
-pub record Lists (old : List ℕ) (at : ℕ) (text : List ℕ) (l : Lister) (r : Listed) (new : List ℕ) : Type 0 where
-  pub kept : r .lister ≡ l
-  pub put : Put old at text (r .used) new
+-- a text listed at a place of a page: what is kept, and the place and the page behind it
+pub record Lists (old : List ℕ) (at : ℕ) (text : List ℕ) (l r : Lister) (next : ℕ) (new : List ℕ) : Type 0 where
+  pub kept : r ≡ l
+  pub put : Put old at text next new
 
 -- "at,what,channel,key,generator,was" and 0AH
 abbrev pub heading : List ℕ

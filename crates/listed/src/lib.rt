@@ -29,7 +29,7 @@ pub struct Lister {
     pub device: Device,
 }
 
-// What is kept after a byte or several, and the place in the page behind what they list.
+// What is kept after the bytes of a read, and the place in the page behind what they list.
 pub struct Listed {
     pub lister: Lister,
     pub used: usize,
@@ -77,94 +77,74 @@ fn is_refused(a: Answer) -> bool
 }
 
 // The start: a refused one lists its number and takes no byte more.
-fn list_start(page: &mut [u8], at: usize, polyphony: u8, id: u8) -> Listed
-    ensures { λ r. ⌜ Lists (now (page .entry)) at (startLine (started polyphony id)) (startLister (started polyphony id)) r (now (page .exit)) ⌝ }
+fn list_start(page: &mut [u8], used: &mut usize, polyphony: u8, id: u8) -> Lister
+    ensures { λ r. ⌜ Lists (now (page .entry)) (now (used .entry)) (startLine (started polyphony id)) (startLister (started polyphony id)) r (now (used .exit)) (now (page .exit)) ⌝ }
 {
     let o = device::start(polyphony, id);
     let answer = o.answer;
     let d = o.device;
     if is_refused(answer) {
-        let used = lines::put_line(page, at, Offset::Nowhere, answer);
-        let l = Lister {
+        let at = *used;
+        *used = lines::put_line(page, at, Offset::Nowhere, answer);
+        return Lister {
             awaits: Awaits::Nothing,
             at: 0,
             device: d,
         };
-        return Listed {
-            lister: l,
-            used: used,
-        };
     }
-    let l = Lister {
+    Lister {
         awaits: Awaits::Midi,
         at: 0,
         device: d,
-    };
-    Listed {
-        lister: l,
-        used: at,
     }
 }
 
 // A MIDI byte.
-fn list_byte(l: Lister, page: &mut [u8], at: usize, b: u8) -> Listed
-    ensures { λ r. ⌜ Lists (now (page .entry)) at (midiLine l b) (afterMidi l b) r (now (page .exit)) ⌝ }
+fn list_byte(l: Lister, page: &mut [u8], used: &mut usize, b: u8) -> Lister
+    ensures { λ r. ⌜ Lists (now (page .entry)) (now (used .entry)) (midiLine l b) (afterMidi l b) r (now (used .exit)) (now (page .exit)) ⌝ }
 {
     let o = device::byte(l.device, b);
     let answer = o.answer;
     let d = o.device;
-    let used = lines::put_line(page, at, Offset::At(l.at), answer);
-    let k = Lister {
+    let at = *used;
+    *used = lines::put_line(page, at, Offset::At(l.at), answer);
+    Lister {
         awaits: Awaits::Midi,
         at: next(l.at),
         device: d,
-    };
-    Listed {
-        lister: k,
-        used: used,
     }
 }
 
 // One byte of the input: P, the ID or a MIDI byte.
-fn one(l: Lister, page: &mut [u8], at: usize, b: u8) -> Listed
-    ensures { λ r. ⌜ Lists (now (page .entry)) at (line l b) (after l b) r (now (page .exit)) ⌝ }
+fn one(l: Lister, page: &mut [u8], used: &mut usize, b: u8) -> Lister
+    ensures { λ r. ⌜ Lists (now (page .entry)) (now (used .entry)) (line l b) (after l b) r (now (used .exit)) (now (page .exit)) ⌝ }
 {
     let awaits = l.awaits;
     match awaits {
         Awaits::Polyphony => {
             let d = l.device;
-            let k = Lister {
+            Lister {
                 awaits: Awaits::Id(b),
                 at: l.at,
                 device: d,
-            };
-            Listed {
-                lister: k,
-                used: at,
             }
         }
-        Awaits::Id(polyphony) => list_start(page, at, polyphony, b),
-        Awaits::Midi => list_byte(l, page, at, b),
-        Awaits::Nothing => Listed {
-            lister: l,
-            used: at,
-        },
+        Awaits::Id(polyphony) => list_start(page, used, polyphony, b),
+        Awaits::Midi => list_byte(l, page, used, b),
+        Awaits::Nothing => l,
     }
 }
 
 // The bytes of a read, listed from the page's start on. Where the page has 128 bytes for each of them, what stands before `used` is what they list, whole.
 pub fn all(l: Lister, page: &mut [u8], bytes: &[u8]) -> Listed
-    ensures { λ r. ⌜ Lists (now (page .entry)) 0 (listedBy l (now (bytes .entry))) (afterAll l (now (bytes .entry))) r (now (page .exit)) ⌝ }
+    ensures { λ r. ⌜ Lists (now (page .entry)) 0 (listedBy l (now (bytes .entry))) (afterAll l (now (bytes .entry))) (r .lister) (r .used) (now (page .exit)) ⌝ }
     ensures { λ r. ⌜ (128 * length (now (bytes .entry)) ≤ length (now (page .entry)) → take (r .used) (now (page .exit)) ≡ listedBy l (now (bytes .entry))) ⌝ }
 {
     let mut k = l;
     let mut used = 0;
     let mut i = 0;
     while i < bytes.len() {
-        let s = one(k, page, used, bytes[i]);
-        let next = s.lister;
-        k = next;
-        used = s.used;
+        k = one(k, page, &mut used, bytes[i]);
         i += 1;
     }
     Listed {
@@ -177,17 +157,18 @@ pub fn all(l: Lister, page: &mut [u8], bytes: &[u8]) -> Listed
 pub fn end(l: Lister, page: &mut [u8]) -> usize
     ensures { λ r. ⌜ Put (now (page .entry)) 0 (endLine l) r (now (page .exit)) ⌝ }
 {
+    let mut used = 0;
     let awaits = l.awaits;
     match awaits {
         Awaits::Polyphony => {
-            let s = list_start(page, 0, 0, 0);
-            s.used
+            list_start(page, &mut used, 0, 0);
+            used
         }
         Awaits::Id(polyphony) => {
-            let s = list_start(page, 0, polyphony, 0);
-            s.used
+            list_start(page, &mut used, polyphony, 0);
+            used
         }
-        Awaits::Midi => 0,
-        Awaits::Nothing => 0,
+        Awaits::Midi => used,
+        Awaits::Nothing => used,
     }
 }

@@ -38,7 +38,7 @@ loop-less c = search needs
 loop-again : tie.Need-loop-again Inv-loop μ-loop
 loop-again c =
     let b = c .before .before .before .before .before .before .before .loop in
-    let o = c .before .before .before .one in
+    let o = c .before .before .one in
     let m = one-more _ _ _ _ (o .result) (c .before .before .before .before .before .before .loop-test .taken) (b .inv .2) (b .inv .3) (o .ensures) in
     (omega arith, o .kept .1 .0 ∙ b .inv .1, m .0, m .1)
 
@@ -48,7 +48,7 @@ same-length c = c .before .loop .inv .1
 returns : tie.Need-returns Inv-loop μ-loop
 returns c =
     let b = c .before .loop in
-    let w = no-more _ _ _ _ _ (c .loop-test .left) (b .inv .2) (b .inv .3) in
+    let w = no-more _ _ _ _ (c .loop-test .left) (b .inv .2) (b .inv .3) in
     (w, λ h. stands-whole _ _ _ (w .put) h)
 
 pub all-spec : {M : Type 1} → statement M

@@ -29,14 +29,14 @@ same-length c = search needs
 
 returns : tie.Need-returns
 unfolding endLine
-returns c = rw (c .before .before .before .before .enum-told .given .1) (c .before .before .list-start .ensures .put)
+returns c = rw (c .before .before .before .before .before .enum-told .given .1) (c .before .before .list-start .ensures .put)
 
 same-length-2 : tie.Need-same-length-2
 same-length-2 c = search needs
 
 returns-2 : tie.Need-returns-2
 unfolding endLine
-returns-2 c = rw (c .before .before .before .before .before .awaits .given .1) (c .before .before .list-start2 .ensures .put)
+returns-2 c = rw (c .before .before .before .before .before .before .awaits .given .1) (c .before .before .list-start2 .ensures .put)
 
 returns-3 : tie.Need-returns-3
 unfolding endLine

@@ -22,9 +22,9 @@ same-length c = search needs
 returns : tie.Need-returns
 unfolding startLine startLister
 returns c =
-    let s = c .before .before .before .before .before .before .before .start in
-    let n = c .before .before .before .before .before .is-refused in
-    let e = sym (n .ensures) ∙ c .before .before .before .before .if1 .taken in
+    let s = c .before .before .before .before .before .before .before .before .start in
+    let n = c .before .before .before .before .before .before .is-refused in
+    let e = sym (n .ensures) ∙ c .before .before .before .before .before .if1 .taken in
     rw (← (s .ensures), e) (record { kept = refl; put = c .before .before .put-line .ensures })
 
 returns-2 : tie.Need-returns-2
