@@ -11,32 +11,25 @@ use Rattle.device.specs.declared.Output.{Output}
 use Rattle.device.specs.Device.{started}
 use Rattle.listed.specs.declared.Awaits.the-variants.{Polyphony, Id, Midi, Nothing}
 use Rattle.listed.specs.declared.Lister.{Lister}
-use Rattle.listed.specs.Listing.{heading, newLister, isRefused, startLine, startLister, endBy, line, after, listedBy, afterAll, endLine, listing}
+use Rattle.listed.specs.Listing.{heading, newLister, isRefused, startLine, startLister, missing, line, after, listedBy, afterAll, endLine, listing}
 
 -- after a start the end of the input adds nothing
 end-started : (o : Output) → endLine (startLister o) ≡ []
-unfolding endLine startLister
+unfolding endLine startLister listedBy
 end-started o = go (isRefused (o .answer))
   where
-    go : (b : Bool) → endBy (if b then Nothing else Midi) ≡ []
+    go : (b : Bool) → listedBy (record { awaits = if b then Nothing else Midi; at = 0; device = o .device }) (missing (if b then Nothing else Midi)) ≡ []
     go true = refl
     go false = refl
 
-one-byte : (p : ℕ) → listing (p ∷ []) ≡ heading ++ startLine (started p 0)
-unfolding listing newLister listedBy afterAll line after endLine
-one-byte p = refl
-
-two-bytes : (p id : ℕ) → listing (p ∷ id ∷ []) ≡ heading ++ startLine (started p id)
-unfolding listing newLister listedBy afterAll line after
-two-bytes p id = rw (append-nil (startLine (started p id)), end-started (started p id), append-nil (startLine (started p id)))
-
 -- "a missing P or ID counts as 0"
 pub missing-p : listing [] ≡ listing (0 ∷ 0 ∷ [])
-unfolding listing newLister listedBy afterAll endLine
-missing-p = sym (two-bytes 0 0)
+unfolding listing newLister listedBy afterAll line after endLine
+missing-p = rw (append-nil (startLine (started 0 0)), end-started (started 0 0), append-nil (startLine (started 0 0)))
 
 pub missing-id : (p : ℕ) → listing (p ∷ []) ≡ listing (p ∷ 0 ∷ [])
-missing-id p = one-byte p ∙ sym (two-bytes p 0)
+unfolding listing newLister listedBy afterAll line after endLine
+missing-id p = rw (append-nil (startLine (started p 0)), end-started (started p 0), append-nil (startLine (started p 0)))
 
 -- where nothing more is awaited, no byte lists or changes anything
 module _ (l : Lister) (e : l .awaits ≡ Nothing) where

@@ -86,14 +86,14 @@ afterAll l [] = l
 afterAll l (b ∷ bs) = afterAll (after l b) bs
 
 -- the end of the input: "a missing P or ID counts as 0"
-abbrev pub endBy : Awaits → List ℕ
-endBy Polyphony = startLine (started 0 0)
-endBy (Id p) = startLine (started p 0)
-endBy Midi = []
-endBy Nothing = []
+abbrev pub missing : Awaits → List ℕ
+missing Polyphony = 0 ∷ 0 ∷ []
+missing (Id p) = 0 ∷ []
+missing Midi = []
+missing Nothing = []
 
 unfoldable pub endLine : Lister → List ℕ
-endLine l = endBy (l .awaits)
+endLine l = listedBy l (missing (l .awaits))
 
 -- what the program writes for an input: "The first line below is always printed"
 unfoldable pub listing : List ℕ → List ℕ

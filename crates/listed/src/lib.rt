@@ -157,18 +157,17 @@ pub fn all(l: Lister, page: &mut [u8], bytes: &[u8]) -> Listed
 pub fn end(l: Lister, page: &mut [u8]) -> usize
     ensures { λ r. ⌜ Put (now (page .entry)) 0 (endLine l) r (now (page .exit)) ⌝ }
 {
-    let mut used = 0;
     let awaits = l.awaits;
     match awaits {
         Awaits::Polyphony => {
-            list_start(page, &mut used, 0, 0);
-            used
+            let s = all(l, page, b"\0\0");
+            s.used
         }
-        Awaits::Id(polyphony) => {
-            list_start(page, &mut used, polyphony, 0);
-            used
+        Awaits::Id(_) => {
+            let s = all(l, page, b"\0");
+            s.used
         }
-        Awaits::Midi => used,
-        Awaits::Nothing => used,
+        Awaits::Midi => 0,
+        Awaits::Nothing => 0,
     }
 }
