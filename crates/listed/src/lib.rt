@@ -163,9 +163,10 @@ pub fn end(l: Lister, page: &mut [u8]) -> usize
             let s = all(l, page, b"\0\0");
             s.used
         }
-        Awaits::Id(_) => {
-            let s = all(l, page, b"\0");
-            s.used
+        Awaits::Id(polyphony) => {
+            let mut used = 0;
+            list_start(page, &mut used, polyphony, 0);
+            used
         }
         Awaits::Midi => 0,
         Awaits::Nothing => 0,

@@ -1,7 +1,9 @@
 -- `listed::end`: the bytes that are missing are listed as zeros.
 -- Assumes nothing.
+use mathlib.Core.List.{append-nil}
 use Rattle.text.proofs.Joined.{nothing-put}
-use Rattle.listed.specs.Listing.{listedBy, endLine}
+use Rattle.device.specs.Device.{started}
+use Rattle.listed.specs.Listing.{startLine, line, listedBy, endLine}
 use borrow.Author.Needs.{needs}
 use Rattle.listed.proofs.end.Statement.{statement}
 use Rattle.listed.proofs.end.Tie as tie
@@ -15,20 +17,17 @@ slice-aggregate-all c = search needs
 all-requires : tie.Need-all-requires
 all-requires c κs = search needs
 
+enum-known-awaits : tie.Need-enum-known-awaits
+enum-known-awaits c = search needs
+
+list-start-requires : tie.Need-list-start-requires
+list-start-requires c κs = search needs
+
 enum-told-2 : tie.Need-enum-told-2
 enum-told-2 c = search needs
 
-slice-aggregate-all-2 : tie.Need-slice-aggregate-all-2
-slice-aggregate-all-2 c = search needs
-
-all-requires-2 : tie.Need-all-requires-2
-all-requires-2 c κs = search needs
-
 enum-told-3 : tie.Need-enum-told-3
 enum-told-3 c = search needs
-
-enum-told-4 : tie.Need-enum-told-4
-enum-told-4 c = search needs
 
 same-length : tie.Need-same-length
 same-length c = search needs
@@ -43,18 +42,16 @@ same-length-2 : tie.Need-same-length-2
 same-length-2 c = search needs
 
 returns-2 : tie.Need-returns-2
-unfolding endLine
-returns-2 c =
-    let e = c .before .before .before .before .before .enum-told2 .given .1 in
-    rw e (rw e at (c .before .before .all2 .ensures .0 .put))
+unfolding endLine listedBy line
+returns-2 c = rw (c .before .before .before .before .before .before .awaits .given .1, append-nil) (c .before .before .list-start .ensures .put)
 
 returns-3 : tie.Need-returns-3
 unfolding endLine listedBy
-returns-3 c = rw (c .enum-told3 .given .1) (nothing-put _ _)
+returns-3 c = rw (c .enum-told2 .given .1) (nothing-put _ _)
 
 returns-4 : tie.Need-returns-4
 unfolding endLine listedBy
-returns-4 c = rw (c .enum-told4 .given .1) (nothing-put _ _)
+returns-4 c = rw (c .enum-told3 .given .1) (nothing-put _ _)
 
 pub end-spec : {M : Type 1} → statement M
 end-spec =
@@ -63,11 +60,10 @@ end-spec =
     enum-told
     slice-aggregate-all
     all-requires
+    enum-known-awaits
+    list-start-requires
     enum-told-2
-    slice-aggregate-all-2
-    all-requires-2
     enum-told-3
-    enum-told-4
     same-length
     returns
     same-length-2
