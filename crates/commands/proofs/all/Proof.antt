@@ -1,12 +1,12 @@
--- `vectors::all` goes through the bytes, which is its measure; the page keeps its length.
+-- `commands::all` goes through the bytes, which is its measure; the page keeps its length.
 -- Assumes nothing.
 use Prim.Native.Nat.{_+_, _≤_, _-_}
 use mathlib.Core.Path.{_≡_, refl, _∙_}
 use native.Mathlib.Omega.{arith}
 use lib.ListN.{length}
 use borrow.Author.Needs.{needs}
-use Rattle.vectors.proofs.all.Statement.{statement}
-use Rattle.vectors.proofs.all.Tie as tie
+use Rattle.commands.proofs.all.Statement.{statement}
+use Rattle.commands.proofs.all.Tie as tie
 
 abbrev Inv-loop : tie.InvT-loop
 Inv-loop page₀ bytes next₀ i₀ page next i = (i ≤ length bytes) × (length page ≡ length page₀)

@@ -1,12 +1,12 @@
--- `vectors::put_players` goes through the 64 numbers of generators; the page keeps its length.
+-- `commands::put_players` goes through the 64 numbers of generators; the page keeps its length.
 -- Assumes nothing.
 use Prim.Native.Nat.{_≤_, _-_}
 use mathlib.Core.Path.{_≡_, refl, _∙_}
 use native.Mathlib.Omega.{arith}
 use lib.ListN.{length}
 use borrow.Author.Needs.{needs}
-use Rattle.vectors.proofs.put_players.Statement.{statement}
-use Rattle.vectors.proofs.put_players.Tie as tie
+use Rattle.commands.proofs.put_players.Statement.{statement}
+use Rattle.commands.proofs.put_players.Tie as tie
 
 abbrev Inv-loop : tie.InvT-loop
 Inv-loop page₀ at d k₀ g₀ page k g = (g ≤ 64) × (length page ≡ length page₀)

@@ -1,12 +1,12 @@
--- `vectors::take_bytes` goes through the numbers of a line; the page keeps its length.
+-- `commands::take_bytes` goes through the numbers of a line; the page keeps its length.
 -- Assumes nothing.
 use Prim.Native.Nat.{_≤_, _-_}
 use mathlib.Core.Path.{_≡_, refl, _∙_}
 use native.Mathlib.Omega.{arith}
 use lib.ListN.{length}
 use borrow.Author.Needs.{needs}
-use Rattle.vectors.proofs.take_bytes.Statement.{statement}
-use Rattle.vectors.proofs.take_bytes.Tie as tie
+use Rattle.commands.proofs.take_bytes.Statement.{statement}
+use Rattle.commands.proofs.take_bytes.Tie as tie
 
 abbrev Inv-loop : tie.InvT-loop
 Inv-loop page₀ count numbers next₀ i₀ page next i = (i ≤ 64) × (length page ≡ length page₀)

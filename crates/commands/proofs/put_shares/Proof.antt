@@ -1,12 +1,12 @@
--- `vectors::put_shares` goes through the channels; the page keeps its length.
+-- `commands::put_shares` goes through the channels; the page keeps its length.
 -- Assumes nothing.
 use Prim.Native.Nat.{_≤_, _-_}
 use mathlib.Core.Path.{_≡_, refl, _∙_}
 use native.Mathlib.Omega.{arith}
 use lib.ListN.{length}
 use borrow.Author.Needs.{needs}
-use Rattle.vectors.proofs.put_shares.Statement.{statement}
-use Rattle.vectors.proofs.put_shares.Tie as tie
+use Rattle.commands.proofs.put_shares.Statement.{statement}
+use Rattle.commands.proofs.put_shares.Tie as tie
 
 abbrev Inv-loop : tie.InvT-loop
 Inv-loop page₀ at d k₀ c₀ t7 page k c = (c ≤ 17) × (length page ≡ length page₀)

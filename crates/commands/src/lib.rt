@@ -1,0 +1,542 @@
+// The vectors program as a function that answers its exit status: reads lines of commands from standard input, of any length, repeats each line and writes below it what the device answers, in the
+// fields of the listing, before it waits for more. Numbers in a command are two hexadecimal digits, each behind one blank; those of an answer are decimal.
+//
+//     # ..        a comment
+//     P pp dd     starts a device with polyphony pp and own ID dd, and answers
+//     B bb ..     MIDI bytes, 1 to 64: a line for each answer other than none, with the byte's offset since the start
+//     R gg        reports the end of generator gg, and answers
+//     G gg        asks for generator gg: its number, state, channel and key
+//     M cc        asks whether channel cc is masked
+//     S cc        asks for the share of channel cc
+//     T           the shares of channels 1 to 16 in one line, - for a masked channel
+//     W           who plays: a line as that of G for each generator that is not idle
+//     C cc        the eleven numbers of channel cc, in the order of document 01, "The device record"
+//
+// A refused query answers its number only. Any other line is answered `malformed` and has no effect; an empty line has no answer. Before the first P the device
+// is one with P 1 and own ID 0. Assumes the contracts of the C library's read and write, and nothing else.
+ghost use Prim.Native.Nat.{_≤_};
+use channels::Channel;
+use console::Input;
+use console::Output;
+use device::Device;
+use events::Event;
+use lines::Offset;
+use lines::put_field;
+use queries::GeneratorAnswer;
+use shares::MaskAnswer;
+use shares::ShareAnswer;
+use text::put;
+
+// What the next byte of a line may be.
+enum Awaits {
+    // The line's first byte: a command or the sign of a comment.
+    Command,
+    // The line's end or the blank before a number.
+    Gap,
+    // A number's first digit.
+    Digit,
+    // Its second one, behind this first one.
+    SecondDigit(u8),
+    // Anything: the line is a comment.
+    Comment,
+    // Anything: the line is malformed.
+    Malformed,
+}
+
+// A line, as far as it is read.
+struct Line {
+    awaits: Awaits,
+    command: u8,
+    count: usize,
+    numbers: [u8; 64],
+}
+
+// What is kept from byte to byte: the line, the offset of the next MIDI byte, the bytes of the page in use, and the device.
+struct Bench {
+    line: Line,
+    at: u64,
+    used: usize,
+    device: Device,
+}
+
+// After a turn: whether to go on, whether reading or writing failed, and what is kept.
+struct Turn {
+    more: bool,
+    failed: bool,
+    bench: Bench,
+}
+
+// A command's answer is no longer than 64 lines, and the shortest command has two bytes, so the page has room for what a read of 256 bytes calls for.
+fn empty_page() -> [u8; 262144] {
+    [0u8; 262144]
+}
+
+enum Digit {
+    // A hexadecimal digit of this value.
+    Value(u8),
+    // Another byte.
+    NoDigit,
+}
+
+fn digit_of(b: u8) -> Digit {
+    if b < b'0' {
+        return Digit::NoDigit;
+    }
+    if b <= b'9' {
+        return Digit::Value(b - b'0');
+    }
+    if b < b'A' {
+        return Digit::NoDigit;
+    }
+    if b <= b'F' {
+        return Digit::Value(b - b'A' + 10);
+    }
+    Digit::NoDigit
+}
+
+fn empty_line() -> Line {
+    Line {
+        awaits: Awaits::Command,
+        command: 0,
+        count: 0,
+        numbers: [0u8; 64],
+    }
+}
+
+// The same line, with what may follow.
+fn awaiting(l: Line, a: Awaits) -> Line {
+    let numbers = l.numbers;
+    Line {
+        awaits: a,
+        command: l.command,
+        count: l.count,
+        numbers: numbers,
+    }
+}
+
+// A number more; a line with a 65th is malformed.
+fn with_number(l: Line, n: u8) -> Line {
+    let at = l.count;
+    let mut numbers = l.numbers;
+    if at < 64 {
+        numbers[at] = n;
+        return Line {
+            awaits: Awaits::Gap,
+            command: l.command,
+            count: at + 1,
+            numbers: numbers,
+        };
+    }
+    awaiting(l, Awaits::Malformed)
+}
+
+fn read_command(l: Line, b: u8) -> Line {
+    if b == b'#' {
+        return awaiting(l, Awaits::Comment);
+    }
+    let mut next = awaiting(l, Awaits::Gap);
+    next.command = b;
+    next
+}
+
+fn read_gap(l: Line, b: u8) -> Line {
+    if b == b' ' {
+        return awaiting(l, Awaits::Digit);
+    }
+    awaiting(l, Awaits::Malformed)
+}
+
+fn read_digit(l: Line, b: u8) -> Line {
+    let Digit::Value(high) = digit_of(b) else {
+        return awaiting(l, Awaits::Malformed);
+    };
+    awaiting(l, Awaits::SecondDigit(high))
+}
+
+fn read_second_digit(l: Line, high: u8, b: u8) -> Line {
+    let Digit::Value(low) = digit_of(b) else {
+        return awaiting(l, Awaits::Malformed);
+    };
+    with_number(l, (high << 4) | low)
+}
+
+// A byte of a line, other than its end.
+fn read_byte(l: Line, b: u8) -> Line {
+    let awaits = l.awaits;
+    match awaits {
+        Awaits::Command => read_command(l, b),
+        Awaits::Gap => read_gap(l, b),
+        Awaits::Digit => read_digit(l, b),
+        Awaits::SecondDigit(high) => read_second_digit(l, high, b),
+        Awaits::Comment => l,
+        Awaits::Malformed => l,
+    }
+}
+
+fn put_malformed(page: &mut [u8], at: usize) -> usize {
+    put(page, at, b"malformed\n")
+}
+
+// The number of a refused query.
+fn put_refused(page: &mut [u8], at: usize, number: u8) -> usize {
+    let k = text::put_number(page, at, number as u64);
+    put(page, k, b"\n")
+}
+
+// No operation makes a state above 3, releasing.
+fn put_state(page: &mut [u8], at: usize, state: u8) -> usize {
+    match state {
+        0 => put(page, at, b",idle"),
+        1 => put(page, at, b",held"),
+        2 => put(page, at, b",sustained"),
+        _ => put(page, at, b",releasing"),
+    }
+}
+
+fn put_generator(page: &mut [u8], at: usize, g: u8, a: GeneratorAnswer) -> usize {
+    match a {
+        GeneratorAnswer::GeneratorIs(state, channel, key) => {
+            let b = put(page, at, b"generator");
+            let c = put_field(page, b, g);
+            let d = put_state(page, c, state);
+            let e = put_field(page, d, channel);
+            let f = put_field(page, e, key);
+            put(page, f, b"\n")
+        }
+        GeneratorAnswer::NoGenerator => put_refused(page, at, 12),
+    }
+}
+
+fn put_mask(page: &mut [u8], at: usize, a: MaskAnswer) -> usize {
+    match a {
+        MaskAnswer::IsMasked => put(page, at, b"masked\n"),
+        MaskAnswer::IsUnmasked => put(page, at, b"unmasked\n"),
+        MaskAnswer::NoSuchChannel => put_refused(page, at, 14),
+    }
+}
+
+fn put_share(page: &mut [u8], at: usize, a: ShareAnswer) -> usize {
+    match a {
+        ShareAnswer::ShareIs(n) => {
+            let b = put(page, at, b"share");
+            let c = put_field(page, b, n);
+            put(page, c, b"\n")
+        }
+        ShareAnswer::NotAChannel => put_refused(page, at, 14),
+    }
+}
+
+// A channel's share among those of all.
+fn put_share_field(page: &mut [u8], at: usize, m: MaskAnswer, a: ShareAnswer) -> usize {
+    let MaskAnswer::IsUnmasked = m else {
+        return put(page, at, b",-");
+    };
+    let ShareAnswer::ShareIs(n) = a else {
+        return put(page, at, b",-");
+    };
+    put_field(page, at, n)
+}
+
+fn put_shares(page: &mut [u8], at: usize, d: Device) -> usize {
+    let mut k = put(page, at, b"shares");
+    let mut c = 1;
+    while c <= 16 {
+        k = put_share_field(
+            page,
+            k,
+            queries::mask_query(d, c),
+            queries::share_query(d, c),
+        );
+        c += 1;
+    }
+    put(page, k, b"\n")
+}
+
+fn is_idle(a: GeneratorAnswer) -> bool {
+    match a {
+        GeneratorAnswer::GeneratorIs(state, _, _) => state == 0,
+        GeneratorAnswer::NoGenerator => true,
+    }
+}
+
+// The line of a generator, if it is not idle.
+fn put_player(page: &mut [u8], at: usize, g: u8, a: GeneratorAnswer) -> usize {
+    if is_idle(a) {
+        return at;
+    }
+    put_generator(page, at, g, a)
+}
+
+fn put_players(page: &mut [u8], at: usize, d: Device) -> usize {
+    let mut k = at;
+    let mut g = 0;
+    while g < 64 {
+        k = put_player(page, k, g, queries::generator_query(d, g));
+        g += 1;
+    }
+    k
+}
+
+fn put_controllers(page: &mut [u8], at: usize, x: Channel) -> usize {
+    let a = put_field(page, at, x.modulation);
+    let b = put_field(page, a, x.volume);
+    let c = put_field(page, b, x.pan);
+    let d = put_field(page, c, x.expression);
+    put_field(page, d, x.hold)
+}
+
+fn put_bend(page: &mut [u8], at: usize, x: Channel) -> usize {
+    let a = put_field(page, at, x.rpn_msb);
+    let b = put_field(page, a, x.rpn_lsb);
+    let c = put_field(page, b, x.bend_msb);
+    let d = put_field(page, c, x.bend_lsb);
+    put_field(page, d, x.sensitivity)
+}
+
+fn put_numbers(page: &mut [u8], at: usize, x: Channel) -> usize {
+    let a = put(page, at, b"numbers");
+    let b = put_field(page, a, x.program);
+    let c = put_controllers(page, b, x);
+    let d = put_bend(page, c, x);
+    put(page, d, b"\n")
+}
+
+// The answer to a command with one number that asks the device.
+fn put_asked(page: &mut [u8], at: usize, d: Device, command: u8, n: u8) -> usize {
+    if command == b'G' {
+        return put_generator(page, at, n, queries::generator_query(d, n));
+    }
+    if command == b'M' {
+        return put_mask(page, at, queries::mask_query(d, n));
+    }
+    if command == b'S' {
+        return put_share(page, at, queries::share_query(d, n));
+    }
+    if (command == b'C') & (1 <= n) & (n <= 16) {
+        let i = d.instrument;
+        return put_numbers(page, at, i.channel_of(n));
+    }
+    put_malformed(page, at)
+}
+
+// The answer to a command that changes nothing.
+fn put_told(page: &mut [u8], at: usize, d: Device, l: Line) -> usize {
+    let command = l.command;
+    let count = l.count;
+    let numbers = l.numbers;
+    if (command == b'T') & (count == 0) {
+        return put_shares(page, at, d);
+    }
+    if (command == b'W') & (count == 0) {
+        return put_players(page, at, d);
+    }
+    if count == 1 {
+        return put_asked(page, at, d, command, numbers[0]);
+    }
+    put_malformed(page, at)
+}
+
+fn with_used(s: Bench, used: usize) -> Bench {
+    let mut next = s;
+    next.used = used;
+    next
+}
+
+fn start(s: Bench, page: &mut [u8], polyphony: u8, id: u8) -> Bench {
+    let o = device::start(polyphony, id);
+    let d = o.device;
+    let answer = o.answer;
+    let mut next = s;
+    next.used = lines::put_line(page, s.used, Offset::Nowhere, answer);
+    next.at = 0;
+    next.device = d;
+    next
+}
+
+fn take(s: Bench, page: &mut [u8], offset: Offset, e: Event) -> Bench {
+    let o = events::apply(s.device, e);
+    let d = o.device;
+    let answer = o.answer;
+    let mut next = s;
+    next.used = lines::put_line(page, s.used, offset, answer);
+    next.device = d;
+    next
+}
+
+fn take_byte(s: Bench, page: &mut [u8], b: u8) -> Bench {
+    let at = s.at;
+    let mut next = take(s, page, Offset::At(at), Event::Byte(b));
+    if at < u64::MAX {
+        next.at = at + 1;
+    }
+    next
+}
+
+// The first `count` of these numbers, as MIDI bytes.
+fn take_bytes(s: Bench, page: &mut [u8], numbers: [u8; 64], count: usize) -> Bench {
+    let mut next = s;
+    let mut i = 0;
+    while i < 64 {
+        if count <= i {
+            return next;
+        }
+        next = take_byte(next, page, numbers[i]);
+        i += 1;
+    }
+    next
+}
+
+// A command.
+fn run(s: Bench, page: &mut [u8]) -> Bench {
+    let l = s.line;
+    let d = s.device;
+    let command = l.command;
+    let count = l.count;
+    let numbers = l.numbers;
+    if (command == b'P') & (count == 2) {
+        return start(s, page, numbers[0], numbers[1]);
+    }
+    if (command == b'B') & (0 < count) {
+        return take_bytes(s, page, numbers, count);
+    }
+    if (command == b'R') & (count == 1) {
+        return take(s, page, Offset::Nowhere, Event::Report(numbers[0]));
+    }
+    with_used(s, put_told(page, s.used, d, l))
+}
+
+// A line's end: the line is run, if it is a command.
+fn end_line(s: Bench, page: &mut [u8]) -> Bench {
+    let l = s.line;
+    let awaits = l.awaits;
+    match awaits {
+        Awaits::Command => s,
+        Awaits::Comment => s,
+        Awaits::Gap => run(s, page),
+        _ => with_used(s, put_malformed(page, s.used)),
+    }
+}
+
+// One byte of the input.
+fn one(s: Bench, page: &mut [u8], b: u8) -> Bench {
+    let echoed = with_used(s, text::put_byte(page, s.used, b));
+    let l = echoed.line;
+    if b == b'\n' {
+        let mut next = end_line(echoed, page);
+        let fresh = empty_line();
+        next.line = fresh;
+        return next;
+    }
+    let read = read_byte(l, b);
+    let mut next = echoed;
+    next.line = read;
+    next
+}
+
+fn all(s: Bench, page: &mut [u8], bytes: &[u8]) -> Bench {
+    let mut next = s;
+    let mut i = 0;
+    while i < bytes.len() {
+        next = one(next, page, bytes[i]);
+        i += 1;
+    }
+    next
+}
+
+// Writes what is answered, and answers whether that failed.
+fn write_out(page: &[u8], used: usize) -> bool {
+    let o = console::write(page, used);
+    match o {
+        Output::Whole => false,
+        Output::Cut(_) => {
+            console::fail(b"vectors: standard output takes no more\n");
+            true
+        }
+    }
+}
+
+fn written(s: Bench, page: &[u8], more: bool) -> Turn {
+    let failed = write_out(page, s.used);
+    Turn {
+        more: more & !failed,
+        failed: failed,
+        bench: with_used(s, 0),
+    }
+}
+
+// A last line without its end is run all the same.
+fn end(s: Bench, page: &mut [u8]) -> Bench {
+    let l = s.line;
+    let awaits = l.awaits;
+    match awaits {
+        Awaits::Command => s,
+        _ => one(s, page, b'\n'),
+    }
+}
+
+fn give_up(s: Bench) -> Turn {
+    console::fail(b"vectors: standard input can't be read\n");
+    Turn {
+        more: false,
+        failed: true,
+        bench: s,
+    }
+}
+
+fn read_once(s: Bench, page: &mut [u8]) -> Turn {
+    let mut input = [0u8; 256];
+    let got = console::read(&mut input);
+    match got {
+        Input::Bytes(n) => {
+            let after = all(s, page, &input[..n]);
+            written(after, page, true)
+        }
+        Input::End => {
+            let last = end(s, page);
+            written(last, page, false)
+        }
+        Input::Unreadable => give_up(s),
+    }
+}
+
+// A proved loop has to end, so the turns are counted down from a number that no input uses up. Answers whether reading or writing failed.
+fn read_all(s: Bench, page: &mut [u8]) -> bool {
+    let mut turns = u64::MAX;
+    let mut k = s;
+    let mut more = true;
+    let mut failed = false;
+    while more {
+        if turns == 0 {
+            return true;
+        }
+        turns -= 1;
+        let t = read_once(k, page);
+        more = t.more;
+        failed = t.failed;
+        let next = t.bench;
+        k = next;
+    }
+    failed
+}
+
+fn run_all(page: &mut [u8]) -> bool {
+    let o = device::start(1, 0);
+    let d = o.device;
+    let s = Bench {
+        line: empty_line(),
+        at: 0,
+        used: 0,
+        device: d,
+    };
+    read_all(s, page)
+}
+
+// The exit status: 0, or 1 if reading or writing failed.
+#[no_mangle]
+pub extern "C" fn muntinorris_vectors() -> u32
+    ensures { λ r. ⌜ r ≤ 1 ⌝ }
+{
+    let mut space = empty_page();
+    let page: &mut [u8] = &mut space;
+    if run_all(page) { 1 } else { 0 }
+}
