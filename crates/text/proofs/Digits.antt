@@ -6,7 +6,10 @@ use mathlib.Core.Bool.{Bool, true, false}
 use native.Mathlib.Omega.{arith}
 use native.Mathlib.Nat.{one-le-pow, pow-suc, pow-le-pow-right}
 use borrow.Author.Tests.{lt-ltb, le-ltb, leb-true, leb-false}
-use lib.Dec.{leb}
+use mathlib.Core.List.{[], _∷_, _++_}
+use lib.Dec.{leb, ltb}
+use lib.ListN.{length, length-append}
+use Rattle.loops.specs.Cases.{if_then_else_}
 use Rattle.io.specs.Digits.{digits, glyph, Fewest}
 use Rattle.text.specs.Text.{decimalWithin}
 
@@ -43,3 +46,13 @@ twenty n r h f = go (leb r 20) refl
         let a : 10 ^ 20 ≤ 10 ^ (r - 1) = pow-le-pow-right {n = 10} (omega arith) {i = 20} {j = r - 1} (omega arith) in
         let b : 10 ^ (r - 1) ≤ n = f .2 (omega arith) in
         absurd (omega arith)
+
+-- as text it has no more bytes than that
+pub digits-within : (k n : ℕ) → length (decimalWithin k n) ≤ k
+unfolding decimalWithin
+digits-within zero n = omega arith
+digits-within (suc k) n = go (ltb n 10) (digits-within k (n / 10))
+  where
+    go : (b : Bool) → length (decimalWithin k (n / 10)) ≤ k → length (if b then (48 + n) ∷ [] else decimalWithin k (n / 10) ++ ((48 + n % 10) ∷ [])) ≤ suc k
+    go true h = omega arith
+    go false h = rw (length-append (decimalWithin k (n / 10)) ((48 + n % 10) ∷ [])) (omega arith)

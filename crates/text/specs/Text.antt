@@ -2,7 +2,7 @@
 use Prim.Native.Nat.{ℕ, zero, suc, _+_, _/_, _%_, min, max}
 use mathlib.Core.Path.{_≡_}
 use mathlib.Core.List.{List, [], _∷_, _++_}
-use lib.Dec.{leb, ltb}
+use lib.Dec.{ltb}
 use lib.ListN.{length}
 use lib.Seq.{sets}
 use Rattle.loops.specs.Cases.{if_then_else_}
@@ -21,7 +21,3 @@ decimalWithin (suc k) n = if ltb n 10 then (48 + n) ∷ [] else decimalWithin k 
 -- every number of 64 bits has at most twenty digits
 abbrev pub decimal : ℕ → List ℕ
 decimal n = decimalWithin 20 n
-
--- where a line goes in a page of so many bytes, of which `used` are taken: behind them if 64 bytes are free there, else to the page's start
-unfoldable pub placeFor : ℕ → ℕ → ℕ
-placeFor size used = if leb (used + 64) size then used else 0

@@ -1,10 +1,7 @@
 // Text in a page of bytes, in which a program collects its output so that one write carries many lines. A text goes to a place of the page, as far as there is
-// room for it, and the answer is the place behind it. Assumes the contract of the C library's write, and nothing else.
-ghost use mathlib.Core.Path.{_≡_};
+// room for it, and the answer is the place behind it. Assumes nothing.
 ghost use mathlib.Core.List.{[], _∷_};
-ghost use lib.ListN.{length};
-ghost use Rattle.text.specs.Text.{Put, decimal, placeFor};
-use libc::STDOUT_FILENO;
+ghost use Rattle.text.specs.Text.{Put, decimal};
 
 pub fn put_byte(page: &mut [u8], at: usize, b: u8) -> usize
     ensures { λ r. ⌜ Put (now (page .entry)) at (b ∷ []) r (now (page .exit)) ⌝ }
@@ -35,28 +32,4 @@ pub fn put_number(page: &mut [u8], at: usize, n: u64) -> usize
     let mut digits = [0u8; 20];
     let k = io::decimal(n, &mut digits);
     put(page, at, &digits[..k])
-}
-
-// Writes the first `used` bytes of the page, and answers the place for what follows them: the page's start. What reaches standard output no contract
-// can say.
-pub fn flush(page: &[u8], used: usize) -> usize
-    ensures { λ r. ⌜ r ≡ 0 ⌝ }
-{
-    if used <= page.len() {
-        io::write_all(STDOUT_FILENO, &page[..used]);
-    }
-    0
-}
-
-// Makes room for a line, which is no longer than 64 bytes, in a page whose first `used` bytes are taken, and answers the place for it.
-pub fn room(page: &[u8], used: usize) -> usize
-    ensures { λ r. ⌜ r ≡ placeFor (length (now (page .entry))) used ⌝ }
-{
-    if page.len() < 64 {
-        return flush(page, used);
-    }
-    if used <= page.len() - 64 {
-        return used;
-    }
-    flush(page, used)
 }

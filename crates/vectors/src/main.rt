@@ -1,5 +1,5 @@
 // Runs test vectors: reads lines of commands from standard input, of any length, repeats each line and writes below it what the device answers, in the
-// fields of the listing. Numbers in a command are two hexadecimal digits, each behind one blank; those of an answer are decimal.
+// fields of the listing, before it waits for more. Numbers in a command are two hexadecimal digits, each behind one blank; those of an answer are decimal.
 //
 //     # ..        a comment
 //     P pp dd     starts a device with polyphony pp and own ID dd, and answers
@@ -15,9 +15,10 @@
 // A refused query answers its number only. Any other line is answered `malformed` and has no effect; an empty line has no answer. Before the first P the device
 // is one with P 1 and own ID 0. Assumes the contracts of the C library's read and write, and nothing else.
 use channels::Channel;
+use console::Input;
+use console::Output;
 use device::Device;
 use events::Event;
-use libc::STDIN_FILENO;
 use lines::Offset;
 use lines::put_field;
 use queries::GeneratorAnswer;
@@ -57,10 +58,16 @@ struct Bench {
     device: Device,
 }
 
-// After a turn: whether to go on, and what is kept.
+// After a turn: whether to go on, whether reading or writing failed, and what is kept.
 struct Turn {
     more: bool,
+    failed: bool,
     bench: Bench,
+}
+
+// A command's answer is no longer than 64 lines, and the shortest command has two bytes, so the page has room for what a read of 256 bytes calls for.
+fn empty_page() -> [u8; 262144] {
+    [0u8; 262144]
 }
 
 enum Digit {
@@ -256,8 +263,7 @@ fn put_player(page: &mut [u8], at: usize, g: u8, a: GeneratorAnswer) -> usize {
     if is_idle(a) {
         return at;
     }
-    let place = text::room(page, at);
-    put_generator(page, place, g, a)
+    put_generator(page, at, g, a)
 }
 
 fn put_players(page: &mut [u8], at: usize, d: Device) -> usize {
@@ -339,9 +345,8 @@ fn start(s: Bench, page: &mut [u8], polyphony: u8, id: u8) -> Bench {
     let o = device::start(polyphony, id);
     let d = o.device;
     let answer = o.answer;
-    let place = text::room(page, s.used);
     let mut next = s;
-    next.used = lines::put_line(page, place, Offset::Nowhere, answer);
+    next.used = lines::put_line(page, s.used, Offset::Nowhere, answer);
     next.at = 0;
     next.device = d;
     next
@@ -351,9 +356,8 @@ fn take(s: Bench, page: &mut [u8], offset: Offset, e: Event) -> Bench {
     let o = events::apply(s.device, e);
     let d = o.device;
     let answer = o.answer;
-    let place = text::room(page, s.used);
     let mut next = s;
-    next.used = lines::put_line(page, place, offset, answer);
+    next.used = lines::put_line(page, s.used, offset, answer);
     next.device = d;
     next
 }
@@ -397,8 +401,7 @@ fn run(s: Bench, page: &mut [u8]) -> Bench {
     if (command == b'R') & (count == 1) {
         return take(s, page, Offset::Nowhere, Event::Report(numbers[0]));
     }
-    let place = text::room(page, s.used);
-    with_used(s, put_told(page, place, d, l))
+    with_used(s, put_told(page, s.used, d, l))
 }
 
 // A line's end: the line is run, if it is a command.
@@ -409,17 +412,13 @@ fn end_line(s: Bench, page: &mut [u8]) -> Bench {
         Awaits::Command => s,
         Awaits::Comment => s,
         Awaits::Gap => run(s, page),
-        _ => {
-            let place = text::room(page, s.used);
-            with_used(s, put_malformed(page, place))
-        }
+        _ => with_used(s, put_malformed(page, s.used)),
     }
 }
 
 // One byte of the input.
 fn one(s: Bench, page: &mut [u8], b: u8) -> Bench {
-    let place = text::room(page, s.used);
-    let echoed = with_used(s, text::put_byte(page, place, b));
+    let echoed = with_used(s, text::put_byte(page, s.used, b));
     let l = echoed.line;
     if b == b'\n' {
         let mut next = end_line(echoed, page);
@@ -443,39 +442,25 @@ fn all(s: Bench, page: &mut [u8], bytes: &[u8]) -> Bench {
     next
 }
 
-fn read_once(s: Bench, page: &mut [u8]) -> Turn {
-    let mut input = io::large_buffer();
-    let got = libc::read(STDIN_FILENO, &mut input);
-    if got <= 0 {
-        return Turn {
-            more: false,
-            bench: s,
-        };
-    }
-    let n = io::count(got, &input);
-    let after = all(s, page, &input[..n]);
-    Turn {
-        more: true,
-        bench: after,
+// Writes what is answered, and answers whether that failed.
+fn write_out(page: &[u8], used: usize) -> bool {
+    let o = console::write(page, used);
+    match o {
+        Output::Whole => false,
+        Output::Cut(_) => {
+            console::fail(b"vectors: standard output takes no more\n");
+            true
+        }
     }
 }
 
-// A proved loop has to end, so the turns are counted down from a number that no input uses up.
-fn read_all(s: Bench, page: &mut [u8]) -> Bench {
-    let mut turns = u64::MAX;
-    let mut last = s;
-    let mut more = true;
-    while more {
-        if turns == 0 {
-            return last;
-        }
-        turns -= 1;
-        let t = read_once(last, page);
-        more = t.more;
-        let b = t.bench;
-        last = b;
+fn written(s: Bench, page: &[u8], more: bool) -> Turn {
+    let failed = write_out(page, s.used);
+    Turn {
+        more: more & !failed,
+        failed: failed,
+        bench: with_used(s, 0),
     }
-    last
 }
 
 // A last line without its end is run all the same.
@@ -488,9 +473,52 @@ fn end(s: Bench, page: &mut [u8]) -> Bench {
     }
 }
 
-fn main() {
-    let mut space = io::large_buffer();
-    let page: &mut [u8] = &mut space;
+fn give_up(s: Bench) -> Turn {
+    console::fail(b"vectors: standard input can't be read\n");
+    Turn {
+        more: false,
+        failed: true,
+        bench: s,
+    }
+}
+
+fn read_once(s: Bench, page: &mut [u8]) -> Turn {
+    let mut input = [0u8; 256];
+    let got = console::read(&mut input);
+    match got {
+        Input::Bytes(n) => {
+            let after = all(s, page, &input[..n]);
+            written(after, page, true)
+        }
+        Input::End => {
+            let last = end(s, page);
+            written(last, page, false)
+        }
+        Input::Unreadable => give_up(s),
+    }
+}
+
+// A proved loop has to end, so the turns are counted down from a number that no input uses up. Answers whether reading or writing failed.
+fn read_all(s: Bench, page: &mut [u8]) -> bool {
+    let mut turns = u64::MAX;
+    let mut k = s;
+    let mut more = true;
+    let mut failed = false;
+    while more {
+        if turns == 0 {
+            return true;
+        }
+        turns -= 1;
+        let t = read_once(k, page);
+        more = t.more;
+        failed = t.failed;
+        let next = t.bench;
+        k = next;
+    }
+    failed
+}
+
+fn run_all(page: &mut [u8]) -> bool {
     let o = device::start(1, 0);
     let d = o.device;
     let s = Bench {
@@ -499,6 +527,11 @@ fn main() {
         used: 0,
         device: d,
     };
-    let last = end(read_all(s, page), page);
-    text::flush(page, last.used);
+    read_all(s, page)
+}
+
+fn main() {
+    let mut space = empty_page();
+    let page: &mut [u8] = &mut space;
+    run_all(page);
 }

@@ -1,18 +1,17 @@
 -- `vectors::read_all` ends, since its turns are counted down; the page keeps its length.
 -- Assumes nothing.
-use Prim.Native.Nat.{_+_, _≤_, _-_}
+use Prim.Native.Nat.{_+_}
 use mathlib.Core.Path.{_≡_, refl, _∙_}
-use native.Mathlib.Omega.{arith}
 use lib.ListN.{length}
 use borrow.Author.Needs.{needs}
 use Rattle.vectors.proofs.read_all.Statement.{statement}
 use Rattle.vectors.proofs.read_all.Tie as tie
 
 abbrev Inv-loop : tie.InvT-loop
-Inv-loop page₀ turns₀ last₀ more₀ page turns last more = length page ≡ length page₀
+Inv-loop page₀ turns₀ k₀ more₀ failed₀ page turns k more failed = length page ≡ length page₀
 
 abbrev μ-loop : tie.MeasureT-loop
-μ-loop page₀ turns₀ last₀ more₀ page turns last more = turns + 0
+μ-loop page₀ turns₀ k₀ more₀ failed₀ page turns k more failed = turns + 0
 
 loop-holds : tie.Need-loop-holds Inv-loop μ-loop
 loop-holds c = refl

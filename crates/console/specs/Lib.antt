@@ -1,0 +1,2 @@
+-- What a program's reads and writes may answer.
+pub mod Console

@@ -1,0 +1,41 @@
+-- `listed::list_start`: by the answer, a line and no byte more, or none and MIDI bytes.
+-- Assumes nothing.
+use mathlib.Core.Path.{refl, sym, _∙_}
+use Rattle.text.proofs.Joined.{nothing-put}
+use Rattle.listed.specs.Listing.{startLine, startLister}
+use borrow.Author.Needs.{needs}
+use Rattle.listed.proofs.list_start.Statement.{statement}
+use Rattle.listed.proofs.list_start.Tie as tie
+
+start-requires : tie.Need-start-requires
+start-requires c κs = search needs
+
+is-refused-requires : tie.Need-is-refused-requires
+is-refused-requires c κs = search needs
+
+put-line-requires : tie.Need-put-line-requires
+put-line-requires c κs = search needs
+
+same-length : tie.Need-same-length
+same-length c = search needs
+
+returns : tie.Need-returns
+unfolding startLine startLister
+returns c =
+    let s = c .before .before .before .before .before .before .before .before .start in
+    let n = c .before .before .before .before .before .before .is-refused in
+    let e = sym (n .ensures) ∙ c .before .before .before .before .before .if1 .taken in
+    rw (← (s .ensures), e) (record { kept = refl; put = c .before .before .put-line .ensures })
+
+returns-2 : tie.Need-returns-2
+unfolding startLine startLister
+returns-2 c =
+    let s = c .before .before .before .start in
+    let n = c .before .is-refused in
+    let e = sym (n .ensures) ∙ c .if1 .left in
+    rw (← (s .ensures), e) (record { kept = refl; put = nothing-put _ _ })
+
+pub list-start-spec : {M : Type 1} → statement M
+list-start-spec =
+    tie.close
+    (tie.spec start-requires is-refused-requires put-line-requires same-length returns returns-2)

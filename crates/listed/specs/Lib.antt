@@ -1,0 +1,2 @@
+-- The listing of an input.
+pub mod Listing

@@ -1,0 +1,174 @@
+// What the listing program lists (document 01, "The listing program"): P, the own ID, then MIDI bytes, each of which may put a line into a page, and what the end of
+// the input adds. Reading and writing are in crate `lister`. Assumes nothing.
+ghost use Prim.Native.Nat.{_*_, _≤_};
+ghost use mathlib.Core.Path.{_≡_};
+ghost use lib.ListN.{length, take};
+ghost use Rattle.text.specs.Text.{Put};
+ghost use Rattle.device.specs.Device.{started};
+ghost use Rattle.listed.specs.Listing.{Lists, heading, newLister, nextOffset, isRefused, startLine, startLister, midiLine, afterMidi, line, after, listedBy, afterAll, endLine};
+use device::Device;
+use lines::Offset;
+use playing::Answer;
+
+// Which byte comes next.
+pub enum Awaits {
+    // P.
+    Polyphony,
+    // The own ID, behind this P.
+    Id(u8),
+    // A MIDI byte.
+    Midi,
+    // None: the start was refused, and the listing is complete.
+    Nothing,
+}
+
+// What is kept from byte to byte: which byte comes next, the offset of the next MIDI byte, and the device.
+pub struct Lister {
+    pub awaits: Awaits,
+    pub at: u64,
+    pub device: Device,
+}
+
+// What is kept after the bytes of a read, and the place in the page behind what they list.
+pub struct Listed {
+    pub lister: Lister,
+    pub used: usize,
+}
+
+// Before the first byte.
+pub fn begin() -> Lister
+    ensures { λ r. ⌜ r ≡ newLister ⌝ }
+{
+    let o = device::start(1, 0);
+    let d = o.device;
+    Lister {
+        awaits: Awaits::Polyphony,
+        at: 0,
+        device: d,
+    }
+}
+
+// The first line.
+pub fn put_heading(page: &mut [u8]) -> usize
+    ensures { λ r. ⌜ Put (now (page .entry)) 0 heading r (now (page .exit)) ⌝ }
+{
+    text::put(page, 0, b"at,what,channel,key,generator,was\n")
+}
+
+fn next(at: u64) -> u64
+    ensures { λ r. ⌜ r ≡ nextOffset at ⌝ }
+{
+    if at < u64::MAX {
+        return at + 1;
+    }
+    at
+}
+
+fn is_refused(a: Answer) -> bool
+    ensures { λ r. ⌜ r ≡ isRefused a ⌝ }
+{
+    match a {
+        Answer::Nothing => false,
+        Answer::Done => false,
+        Answer::Note(_, _, _, _) => false,
+        Answer::NoNote(_, _, _) => false,
+        Answer::Number(_) => true,
+    }
+}
+
+// The start: a refused one lists its number and takes no byte more.
+fn list_start(page: &mut [u8], used: &mut usize, polyphony: u8, id: u8) -> Lister
+    ensures { λ r. ⌜ Lists (now (page .entry)) (now (used .entry)) (startLine (started polyphony id)) (startLister (started polyphony id)) r (now (used .exit)) (now (page .exit)) ⌝ }
+{
+    let o = device::start(polyphony, id);
+    let answer = o.answer;
+    let d = o.device;
+    if is_refused(answer) {
+        let at = *used;
+        *used = lines::put_line(page, at, Offset::Nowhere, answer);
+        return Lister {
+            awaits: Awaits::Nothing,
+            at: 0,
+            device: d,
+        };
+    }
+    Lister {
+        awaits: Awaits::Midi,
+        at: 0,
+        device: d,
+    }
+}
+
+// A MIDI byte.
+fn list_byte(l: Lister, page: &mut [u8], used: &mut usize, b: u8) -> Lister
+    ensures { λ r. ⌜ Lists (now (page .entry)) (now (used .entry)) (midiLine l b) (afterMidi l b) r (now (used .exit)) (now (page .exit)) ⌝ }
+{
+    let o = device::byte(l.device, b);
+    let answer = o.answer;
+    let d = o.device;
+    let at = *used;
+    *used = lines::put_line(page, at, Offset::At(l.at), answer);
+    Lister {
+        awaits: Awaits::Midi,
+        at: next(l.at),
+        device: d,
+    }
+}
+
+// One byte of the input: P, the ID or a MIDI byte.
+fn one(l: Lister, page: &mut [u8], used: &mut usize, b: u8) -> Lister
+    ensures { λ r. ⌜ Lists (now (page .entry)) (now (used .entry)) (line l b) (after l b) r (now (used .exit)) (now (page .exit)) ⌝ }
+{
+    let awaits = l.awaits;
+    match awaits {
+        Awaits::Polyphony => {
+            let d = l.device;
+            Lister {
+                awaits: Awaits::Id(b),
+                at: l.at,
+                device: d,
+            }
+        }
+        Awaits::Id(polyphony) => list_start(page, used, polyphony, b),
+        Awaits::Midi => list_byte(l, page, used, b),
+        Awaits::Nothing => l,
+    }
+}
+
+// The bytes of a read, listed from the page's start on. Where the page has 128 bytes for each of them, what stands before `used` is what they list, whole.
+pub fn all(l: Lister, page: &mut [u8], bytes: &[u8]) -> Listed
+    ensures { λ r. ⌜ Lists (now (page .entry)) 0 (listedBy l (now (bytes .entry))) (afterAll l (now (bytes .entry))) (r .lister) (r .used) (now (page .exit)) ⌝ }
+    ensures { λ r. ⌜ (128 * length (now (bytes .entry)) ≤ length (now (page .entry)) → take (r .used) (now (page .exit)) ≡ listedBy l (now (bytes .entry))) ⌝ }
+{
+    let mut k = l;
+    let mut used = 0;
+    let mut i = 0;
+    while i < bytes.len() {
+        k = one(k, page, &mut used, bytes[i]);
+        i += 1;
+    }
+    Listed {
+        lister: k,
+        used: used,
+    }
+}
+
+// The end of the input: a missing P or ID counts as 0.
+pub fn end(l: Lister, page: &mut [u8]) -> usize
+    ensures { λ r. ⌜ Put (now (page .entry)) 0 (endLine l) r (now (page .exit)) ⌝ }
+{
+    let awaits = l.awaits;
+    match awaits {
+        Awaits::Polyphony => {
+            let s = all(l, page, b"\0\0");
+            s.used
+        }
+        Awaits::Id(polyphony) => {
+            let mut used = 0;
+            list_start(page, &mut used, polyphony, 0);
+            used
+        }
+        Awaits::Midi => 0,
+        Awaits::Nothing => 0,
+    }
+}
