@@ -318,11 +318,8 @@ fn put_asked(page: &mut [u8], at: usize, d: Device, command: u8, n: u8) -> usize
     put_malformed(page, at)
 }
 
-// The answer to a command that changes nothing.
-fn put_told(page: &mut [u8], at: usize, d: Device, l: Line) -> usize {
-    let command = l.command;
-    let count = l.count;
-    let numbers = l.numbers;
+// The answer to a command that changes nothing, with so many numbers, of which this is the first.
+fn put_told(page: &mut [u8], at: usize, d: Device, command: u8, count: usize, first: u8) -> usize {
     if (command == b'T') & (count == 0) {
         return put_shares(page, at, d);
     }
@@ -330,7 +327,7 @@ fn put_told(page: &mut [u8], at: usize, d: Device, l: Line) -> usize {
         return put_players(page, at, d);
     }
     if count == 1 {
-        return put_asked(page, at, d, command, numbers[0]);
+        return put_asked(page, at, d, command, first);
     }
     put_malformed(page, at)
 }
@@ -362,12 +359,16 @@ fn take(s: Bench, page: &mut [u8], offset: Offset, e: Event) -> Bench {
     next
 }
 
-fn take_byte(s: Bench, page: &mut [u8], b: u8) -> Bench {
-    let at = s.at;
-    let mut next = take(s, page, Offset::At(at), Event::Byte(b));
+fn offset_behind(at: u64) -> u64 {
     if at < u64::MAX {
-        next.at = at + 1;
+        return at + 1;
     }
+    at
+}
+
+fn take_byte(s: Bench, page: &mut [u8], b: u8) -> Bench {
+    let mut next = take(s, page, Offset::At(s.at), Event::Byte(b));
+    next.at = offset_behind(s.at);
     next
 }
 
@@ -401,7 +402,7 @@ fn run(s: Bench, page: &mut [u8]) -> Bench {
     if (command == b'R') & (count == 1) {
         return take(s, page, Offset::Nowhere, Event::Report(numbers[0]));
     }
-    with_used(s, put_told(page, s.used, d, l))
+    with_used(s, put_told(page, s.used, d, command, count, numbers[0]))
 }
 
 // A line's end: the line is run, if it is a command.

@@ -1,0 +1,24 @@
+-- `lister::listing_status` has two answers.
+-- Assumes nothing.
+use borrow.Author.Needs.{needs}
+use Rattle.lister.proofs.listing_status.Statement.{statement}
+use Rattle.lister.proofs.listing_status.Tie as tie
+
+empty-page-requires : tie.Need-empty-page-requires
+empty-page-requires c κs = search needs
+
+slice-aggregate-page : tie.Need-slice-aggregate-page
+slice-aggregate-page c = search needs
+
+run-requires : tie.Need-run-requires
+run-requires c κs = search needs
+
+returns : tie.Need-returns
+returns c = search needs
+
+returns-2 : tie.Need-returns-2
+returns-2 c = search needs
+
+pub listing-status-spec : {M : Type 1} → statement M
+listing-status-spec =
+    tie.close (tie.spec empty-page-requires slice-aggregate-page run-requires returns returns-2)
