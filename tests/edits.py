@@ -1,5 +1,6 @@
-"""The must-fail edits. A file has one wrong answer, which it is named for, or several in one check of the crate, each behind a line `wrong: NAME` and each in a function of its
-own, so that what the prover says of a function is said of one wrong answer alone (tests/refused)."""
+"""The must-fail edits. A file has one wrong answer, which it is named for, or several in one check of the crate, each behind a line `wrong: NAME`. Each of several stands in a
+function of its own, so that what the prover says of a function is said of one wrong answer alone; or, where definitions are changed, it has a line `fact: NAME`, of a fact that fails
+for it and for none of the others (tests/refused)."""
 import glob
 import os
 import re
@@ -19,6 +20,11 @@ def wrong_answers(text, label):
         elif kind in ("new", "new:"):
             found.setdefault(name, []).append((file, old, rest))
     return found
+
+
+def facts(text):
+    """The fact of each wrong answer that names one."""
+    return dict(re.findall(r"(?m)^wrong: (.*)\nfact: (.*)$", text))
 
 
 def files(root):
