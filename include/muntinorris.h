@@ -52,6 +52,7 @@ extern "C" {
 #define MUNTINORRIS_NO_SUCH_GENERATOR 12 /* report or query: the generator's number is the polyphony or above. No change */
 #define MUNTINORRIS_ALREADY_IDLE 13      /* report: the generator is idle. No change */
 #define MUNTINORRIS_NO_SUCH_CHANNEL 14   /* mask or share query: the channel is not 1 to 16. No change */
+#define MUNTINORRIS_BAD_PITCH 21         /* pitch: key above 127, sensitivity above 24 or bend above 16383. Entry 65536 and octave 0 */
 
 /*
  * The answer to a start, a byte or a report. number has a meaning with MUNTINORRIS_NUMBER; channel (1 to 16) and key (0 to 127) with MUNTINORRIS_NOTE and with the numbers 10
@@ -82,6 +83,16 @@ struct muntinorris_mask_answer {
 struct muntinorris_share_answer {
     uint8_t number;
     uint8_t share; /* 0 where the channel is masked */
+};
+
+/*
+ * A pitch: entry times 2 to the power of octave. entry is that of the position's place in the octave, 65536 to 130599 in 192 steps of a sixteenth of a semitone, so that key 0
+ * without bend is octave 0 and 65536. number is 0, or 21 where the call was refused, and then entry is 65536 and octave 0.
+ */
+struct muntinorris_pitch_answer {
+    uint32_t entry;
+    int8_t octave; /* -2 to 12 */
+    uint8_t number;
 };
 
 /* ---- the record ---- */
@@ -172,6 +183,12 @@ struct muntinorris_generator_answer muntinorris_generator(const struct muntinorr
 /* Number 14 where the channel is not 1 to 16. */
 struct muntinorris_mask_answer muntinorris_mask(const struct muntinorris_device *d, uint8_t channel);
 struct muntinorris_share_answer muntinorris_share(const struct muntinorris_device *d, uint8_t channel);
+
+/*
+ * The pitch of a key, 0 to 127, with the sensitivity of its channel in semitones, 0 to 24, and its bend, 0 to 16383 with centre 8192: 128 * bend_msb + bend_lsb of the
+ * channel's record. It needs no record. Number 21 where one of the three is out of range.
+ */
+struct muntinorris_pitch_answer muntinorris_pitch(uint8_t key, uint8_t sensitivity, uint16_t bend);
 
 #ifdef __cplusplus
 }

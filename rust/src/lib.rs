@@ -61,7 +61,14 @@ pub struct Generator {
     pub key: u8,
 }
 
-/// The number of a refused query: 12 or 14.
+/// The pitch of a note: its entry, 65536 to 130599, times 2 to the power of its octave, -2 to 12.
+#[derive(Clone, Copy, Debug, PartialEq, Eq)]
+pub struct Pitch {
+    pub octave: i8,
+    pub entry: u32,
+}
+
+/// The number of a refused query, 12 or 14, or of a refused pitch, 21.
 #[derive(Clone, Copy, Debug, PartialEq, Eq)]
 pub struct Refused(pub u8);
 
@@ -72,6 +79,7 @@ extern "C" {
     fn muntinorris_generator(d: *const Device, generator: u8) -> record::GeneratorNumbers;
     fn muntinorris_mask(d: *const Device, channel: u8) -> record::MaskNumbers;
     fn muntinorris_share(d: *const Device, channel: u8) -> record::ShareNumbers;
+    fn muntinorris_pitch(key: u8, sensitivity: u8, bend: u16) -> record::PitchNumbers;
 }
 
 impl From<record::AnswerNumbers> for Answer {
@@ -146,4 +154,11 @@ impl Device {
         let n = unsafe { muntinorris_share(self, channel) };
         answered(n.number, n.share)
     }
+}
+
+/// The pitch of a key, 0 to 127, with the sensitivity, 0 to 24 semitones, and the bend, 0 to 16383 with centre 8192, of its channel; number 21 where one is out of range.
+pub fn pitch(key: u8, sensitivity: u8, bend: u16) -> Result<Pitch, Refused> {
+    // SAFETY: the call takes and gives plain numbers.
+    let n = unsafe { muntinorris_pitch(key, sensitivity, bend) };
+    answered(n.number, Pitch { octave: n.octave, entry: n.entry })
 }

@@ -124,6 +124,14 @@ pub struct ShareNumbers {
     pub share: u8,
 }
 
+#[repr(C)]
+#[derive(Clone, Copy, Debug, PartialEq, Eq)]
+pub struct PitchNumbers {
+    pub entry: u32,
+    pub octave: i8,
+    pub number: u8,
+}
+
 /// Each struct's size, and each field's place and size, in the names of the header: what the C test prints with the word `print`.
 pub fn layout() -> String {
     let mut lines = String::new();
@@ -145,5 +153,6 @@ pub fn layout() -> String {
     lay!("generator_answer", GeneratorNumbers { number: u8, state: u8, channel: u8, key: u8 });
     lay!("mask_answer", MaskNumbers { number: u8, masked: u8 });
     lay!("share_answer", ShareNumbers { number: u8, share: u8 });
+    lay!("pitch_answer", PitchNumbers { entry: u32, octave: i8, number: u8 });
     lines
 }

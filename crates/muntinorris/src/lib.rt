@@ -5,11 +5,13 @@ ghost use Rattle.device.specs.Device.{started};
 ghost use Rattle.events.specs.Events.{taken};
 ghost use Rattle.events.specs.declared.Event.the-variants.{Byte, Report};
 ghost use Rattle.queries.specs.Queries.{generatorQuery, deviceMask, deviceShare};
-ghost use Rattle.numbers.specs.Numbers.{numbersOf, generatorNumbers, maskNumbers, shareNumbers};
+ghost use Rattle.pitch.specs.Pitch.{pitchOf};
+ghost use Rattle.numbers.specs.Numbers.{numbersOf, generatorNumbers, maskNumbers, shareNumbers, pitchNumbers};
 use device::Device;
 use numbers::AnswerNumbers;
 use numbers::GeneratorNumbers;
 use numbers::MaskNumbers;
+use numbers::PitchNumbers;
 use numbers::ShareNumbers;
 
 // The record becomes that of a start, whatever it was.
@@ -60,4 +62,12 @@ pub extern "C" fn muntinorris_share(d: &Device, channel: u8) -> ShareNumbers
     ensures { λ r. ⌜ r ≡ shareNumbers (deviceShare (now (d .entry)) channel) ⌝ }
 {
     numbers::share_numbers(*d, channel)
+}
+
+// The pitch of a key, with the sensitivity and the bend of its channel.
+#[no_mangle]
+pub extern "C" fn muntinorris_pitch(key: u8, sensitivity: u8, bend: u16) -> PitchNumbers
+    ensures { λ r. ⌜ r ≡ pitchNumbers (pitchOf key sensitivity bend) ⌝ }
+{
+    numbers::pitch_numbers(key, sensitivity, bend)
 }

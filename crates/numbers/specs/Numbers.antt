@@ -1,4 +1,4 @@
--- The answers of document 01 in plain numbers, as C has them: what it is (0 none, 1 done, 2 a note, 3 a number), the paper's number, and the values that the answer
+-- The answers of documents 01 and 02 in plain numbers, as C has them: what it is (0 none, 1 done, 2 a note, 3 a number), the paper's number, and the values that the answer
 -- carries. A field without meaning is 0.
 use Prim.Native.Nat.{ℕ}
 use mathlib.Core.Option.{Option, some, none}
@@ -15,10 +15,13 @@ use Rattle.shares.specs.declared.MaskAnswer.the-variants.{IsMasked, IsUnmasked,
 use Rattle.shares.specs.declared.ShareAnswer.{ShareAnswer}
 use Rattle.shares.specs.declared.ShareAnswer.the-variants.{ShareIs, NotAChannel}
 use Rattle.shares.specs.Shares.{maskNumber, shareNumber}
+use Rattle.pitch.specs.declared.PitchAnswer.{PitchAnswer}
+use Rattle.pitch.specs.Pitch.{pitchIn, pitchNumber}
 use Rattle.numbers.specs.declared.AnswerNumbers.{AnswerNumbers}
 use Rattle.numbers.specs.declared.GeneratorNumbers.{GeneratorNumbers}
 use Rattle.numbers.specs.declared.MaskNumbers.{MaskNumbers}
 use Rattle.numbers.specs.declared.ShareNumbers.{ShareNumbers}
+use Rattle.numbers.specs.declared.PitchNumbers.{PitchNumbers}
 
 -- "what the generator was: idle, release or stolen"
 abbrev pub wasNumber : Was → ℕ
@@ -52,3 +55,7 @@ maskNumbers NoSuchChannel = record { number = orZero (maskNumber NoSuchChannel);
 abbrev pub shareNumbers : ShareAnswer → ShareNumbers
 shareNumbers (ShareIs n) = record { number = 0; share = n }
 shareNumbers NotAChannel = record { number = orZero (shareNumber NotAChannel); share = 0 }
+
+-- "Refused calls answer octave 0 and 65536"
+abbrev pub pitchNumbers : PitchAnswer → PitchNumbers
+pitchNumbers a = record { entry = pitchIn a .entry; octave = pitchIn a .octave; number = orZero (pitchNumber a) }

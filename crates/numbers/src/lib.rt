@@ -1,9 +1,11 @@
 // The answers in plain numbers, as C and Rust have them (include/muntinorris.h), by value, for every answer and every record. Assumes nothing.
 ghost use mathlib.Core.Path.{_≡_};
 ghost use Rattle.queries.specs.Queries.{generatorQuery, deviceMask, deviceShare};
-ghost use Rattle.numbers.specs.Numbers.{wasNumber, numbersOf, generatorNumbers, maskNumbers, shareNumbers};
+ghost use Rattle.pitch.specs.Pitch.{pitchOf};
+ghost use Rattle.numbers.specs.Numbers.{wasNumber, numbersOf, generatorNumbers, maskNumbers, shareNumbers, pitchNumbers};
 use allocation::Was;
 use device::Device;
+use pitch::PitchAnswer;
 use playing::Answer;
 use queries::GeneratorAnswer;
 use shares::MaskAnswer;
@@ -41,6 +43,14 @@ pub struct MaskNumbers {
 pub struct ShareNumbers {
     pub number: u8,
     pub share: u8,
+}
+
+// A pitch, its entry times 2 to the power of its octave, or number 21 with 65536 and 0.
+#[repr(C)]
+pub struct PitchNumbers {
+    pub entry: u32,
+    pub octave: i8,
+    pub number: u8,
 }
 
 fn was_number(w: Was) -> u8
@@ -149,6 +159,23 @@ pub fn share_numbers(d: Device, channel: u8) -> ShareNumbers
         ShareAnswer::NotAChannel => ShareNumbers {
             number: 14,
             share: 0,
+        },
+    }
+}
+
+pub fn pitch_numbers(key: u8, sensitivity: u8, bend: u16) -> PitchNumbers
+    ensures { λ r. ⌜ r ≡ pitchNumbers (pitchOf key sensitivity bend) ⌝ }
+{
+    match pitch::pitch_of(key, sensitivity, bend) {
+        PitchAnswer::Sounds(p) => PitchNumbers {
+            entry: p.entry,
+            octave: p.octave,
+            number: 0,
+        },
+        PitchAnswer::OutOfRange => PitchNumbers {
+            entry: 65536,
+            octave: 0,
+            number: 21,
         },
     }
 }

@@ -1,0 +1,3 @@
+pub mod Roots
+pub mod Floor
+pub mod Rising

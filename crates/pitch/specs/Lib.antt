@@ -1,0 +1,2 @@
+-- The pitch of a note.
+pub mod Pitch
