@@ -13,7 +13,8 @@
  * alignment is 1 and every address is aligned for it.)
  *
  * Channels are 1 to 16, as musicians count them; the wire carries channel minus 1. "Document 01" is the specification, "The note allocator of a scalable
- * polyphony module". Every call is proved to give exactly the answer and the record of its definition there, for every input.
+ * polyphony module", "document 02" the changes to it that were asked for. Every call is proved to give exactly the answer and the record of its definition, for
+ * every input.
  */
 #ifndef MUNTINORRIS_H
 #define MUNTINORRIS_H
@@ -37,7 +38,7 @@ extern "C" {
 #define MUNTINORRIS_WAS_RELEASE 1 /* it was releasing: its note had ended */
 #define MUNTINORRIS_WAS_STOLEN 2  /* it was busy: its note is lost */
 
-/* The numbers of document 01, and what each leaves behind. */
+/* The numbers of documents 01 and 02, and what each leaves behind. */
 #define MUNTINORRIS_BAD_POLYPHONY 1      /* start: the polyphony is not 1 to 64. A fresh record of polyphony 1 and own ID 0 */
 #define MUNTINORRIS_BAD_ID 2             /* start: the own ID is above 126. The same */
 #define MUNTINORRIS_STRAY_DATA 3         /* a data byte with no status, SysEx or swallowing. No change */
@@ -86,8 +87,8 @@ struct muntinorris_share_answer {
 };
 
 /*
- * A pitch: entry times 2 to the power of octave. entry is that of the position's place in the octave, 65536 to 130599 in 192 steps of a sixteenth of a semitone, so that key 0
- * without bend is octave 0 and 65536. number is 0, or 21 where the call was refused, and then entry is 65536 and octave 0.
+ * A pitch: entry times 2 to the power of octave. entry goes from 65536 to 130599 in 192 steps of a sixteenth of a semitone, so that key 0 without bend is octave 0 and 65536,
+ * and key 12 octave 1 and 65536. number is 0, or 21 where the call was refused, and then entry is 65536 and octave 0. (Two bytes of padding behind number.)
  */
 struct muntinorris_pitch_answer {
     uint32_t entry;
@@ -185,8 +186,9 @@ struct muntinorris_mask_answer muntinorris_mask(const struct muntinorris_device 
 struct muntinorris_share_answer muntinorris_share(const struct muntinorris_device *d, uint8_t channel);
 
 /*
- * The pitch of a key, 0 to 127, with the sensitivity of its channel in semitones, 0 to 24, and its bend, 0 to 16383 with centre 8192: 128 * bend_msb + bend_lsb of the
- * channel's record. It needs no record. Number 21 where one of the three is out of range.
+ * The pitch of a key, 0 to 127, with the sensitivity of its channel in semitones, 0 to 24, and the bend, 0 to 16383 with centre 8192, which is 128 * bend_msb + bend_lsb of
+ * the channel in the record. It is lent nothing and needs no start. Number 21 where one of the three is out of range. Of two pitches, the one of the higher position, in
+ * sixteenths of a semitone, is the higher; a full bend up, 16383, is a sixteenth short of the sensitivity.
  */
 struct muntinorris_pitch_answer muntinorris_pitch(uint8_t key, uint8_t sensitivity, uint16_t bend);
 

@@ -316,6 +316,18 @@ static void numbers(void)
     check(muntinorris_generator(device, 0).state == MUNTINORRIS_STATE_RELEASING, "the state releasing");
 }
 
+/* A pitch answer's fields, each with a value of its own. */
+static void pitches(void)
+{
+    struct muntinorris_pitch_answer a = muntinorris_pitch(1, 24, 0);
+
+    check(a.entry == 69432 && a.octave == -2 && a.number == 0, "the lowest pitch of key 1");
+    a = muntinorris_pitch(127, 24, 16383);
+    check(a.entry == 97839 && a.octave == 12 && a.number == 0, "the highest pitch");
+    a = muntinorris_pitch(127, 25, 16383);
+    check(a.entry == 65536 && a.octave == 0 && a.number == MUNTINORRIS_BAD_PITCH, "number 21");
+}
+
 /* Of each struct its size, then of each field its place and size; the fields must fill it, so that none is left out here. */
 static size_t unlisted;
 #define STRUCT(s) (check(unlisted == 0, "every field of the struct before " #s " is listed"), unlisted = sizeof(struct muntinorris_##s), line("%s %u\n", #s, (unsigned)unlisted))
@@ -350,6 +362,7 @@ static void layout(void)
     STRUCT(generator_answer), FIELD(generator_answer, number), FIELD(generator_answer, state), FIELD(generator_answer, channel), FIELD(generator_answer, key);
     STRUCT(mask_answer), FIELD(mask_answer, number), FIELD(mask_answer, masked);
     STRUCT(share_answer), FIELD(share_answer, number), FIELD(share_answer, share);
+    STRUCT(pitch_answer), FIELD(pitch_answer, entry), FIELD(pitch_answer, octave), FIELD(pitch_answer, number), unlisted -= 2; /* padding */
     check(unlisted == 0, "every field of the last struct is listed");
 }
 
@@ -367,6 +380,7 @@ int main(int argc, char **argv)
     generators();
     ages_and_id();
     numbers();
+    pitches();
     if (failures == 0)
         printf("the record of %u bytes is the library's\n", (unsigned)sizeof(struct muntinorris_device));
     return failures != 0;

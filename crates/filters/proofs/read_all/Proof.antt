@@ -1,11 +1,11 @@
--- `lister::read_all` ends, since its turns are counted down; the page keeps its length.
+-- `filters::read_all` ends, since its turns are counted down; the page keeps its length.
 -- Assumes nothing.
 use Prim.Native.Nat.{_+_}
 use mathlib.Core.Path.{_≡_, refl, _∙_}
 use lib.ListN.{length}
 use borrow.Author.Needs.{needs}
-use Rattle.lister.proofs.read_all.Statement.{statement}
-use Rattle.lister.proofs.read_all.Tie as tie
+use Rattle.filters.proofs.read_all.Statement.{statement}
+use Rattle.filters.proofs.read_all.Tie as tie
 
 abbrev Inv-loop : tie.InvT-loop
 Inv-loop page₀ turns₀ k₀ more₀ failed₀ page turns k more failed = length page ≡ length page₀

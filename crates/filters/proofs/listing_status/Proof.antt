@@ -1,8 +1,8 @@
--- `lister::listing_status` has two answers.
+-- `filters::listing_status` has two answers.
 -- Assumes nothing.
 use borrow.Author.Needs.{needs}
-use Rattle.lister.proofs.listing_status.Statement.{statement}
-use Rattle.lister.proofs.listing_status.Tie as tie
+use Rattle.filters.proofs.listing_status.Statement.{statement}
+use Rattle.filters.proofs.listing_status.Tie as tie
 
 empty-page-requires : tie.Need-empty-page-requires
 empty-page-requires c κs = search needs

@@ -1,9 +1,9 @@
--- `lister::read_once`: the bytes that came are within the input's array.
+-- `filters::read_once`: the bytes that came are within the input's array.
 -- Assumes nothing.
 use Rattle.console.proofs.Came.{came}
 use borrow.Author.Needs.{needs}
-use Rattle.lister.proofs.read_once.Statement.{statement}
-use Rattle.lister.proofs.read_once.Tie as tie
+use Rattle.filters.proofs.read_once.Statement.{statement}
+use Rattle.filters.proofs.read_once.Tie as tie
 
 slice-aggregate-read : tie.Need-slice-aggregate-read
 slice-aggregate-read c = search needs
