@@ -194,5 +194,9 @@ pub extern "C" fn pitches_status() -> u32
 {
     let mut space = empty_page();
     let page: &mut [u8] = &mut space;
-    if read_all(begin(Program::Pitches), page) { 1 } else { 0 }
+    if read_all(begin(Program::Pitches), page) {
+        1
+    } else {
+        0
+    }
 }

@@ -1,13 +1,14 @@
--- The table of one octave follows its rule, and rises: one test of each entry, computed in one sweep over the 192 numbers.
+-- The table of one octave follows its rule, and rises: one test of each of the 192 numbers, which the checker computes in one sweep. Whatever is asked of an entry is then read off the test at
+-- its place; no power is computed again.
 -- Assumes nothing.
-use mathlib.Core.Path.{_≡_, refl, sym, _∙_, subst}
+use mathlib.Core.Path.{_≡_, refl, sym, ap, _∙_, subst}
 use mathlib.Core.Bool.{Bool, true, false}
 use mathlib.Core.List.{List, [], _∷_}
-use Prim.Native.Nat.{ℕ, zero, suc, _+_, _*_, _^_, _≤_, _<_}
+use Prim.Native.Nat.{ℕ, zero, suc, _+_, _*_, _/_, _%_, _^_, _≤_, _<_}
 use native.Mathlib.Nat.{le-trans, le-of-lt, le-of-eq, lt-irrefl, lt-of-lt-of-le, pow-le-pow-left, one-le-pow, pow-suc, mul-le-mul-right, one-mul}
 use native.Mathlib.Omega.{arith}
-use lib.Dec.{T, eqb, leb, ltb, leb→le, ltb→lt}
-use lib.ListN.{getD}
+use lib.Dec.{T, eqb, leb, ltb, leb→le, ltb→lt, eqb→eq}
+use lib.ListN.{getD, take, drop}
 use borrow.Author.Tests.{ltb-true, ltb-false, lt-ltb, le-leb, lt-leb, eqb-true, eqb-false}
 use Rattle.loops.specs.Cases.{if_then_else_}
 use Rattle.loops.proofs.Sweep.{at, both, both-left, both-right}
@@ -47,23 +48,30 @@ within? n = both (leb 65536 n) (ltb n 131072)
 rises? : ℕ → ℕ → Bool
 rises? i n = both (within? n) (ltb n (if ltb i 191 then getD roots (suc i) 0 else 131072))
 
+-- the eight of half a semitone, and an entry among them
+abbrev pub row : ℕ → List ℕ
+row s = take 8 (drop (8 * s) roots)
+
+placed? : ℕ → ℕ → Bool
+placed? i n = eqb n (getD (row (i / 8)) (i % 8) 0)
+
 right : ℕ → ℕ → Bool
-right i n = both (both (low? i n) (high? i n)) (rises? i n)
+right i n = both (both (both (low? i n) (high? i n)) (rises? i n)) (placed? i n)
 
 swept : (i : ℕ) → i < 192 → T (right i (getD roots i 0))
-unfolding right low? high? rises? within?
+unfolding right low? high? rises? within? placed?
 swept i h = at right roots tt i h
 
 pub root-at : (i : ℕ) → i < 192 → Root i (getD roots i 0)
 unfolding right low? high?
 root-at i h =
     let n = getD roots i 0 in
-    let t = both-left (both (low? i n) (high? i n)) (rises? i n) (swept i h) in
+    let t = both-left (both (low? i n) (high? i n)) (rises? i n) (both-left (both (both (low? i n) (high? i n)) (rises? i n)) (placed? i n) (swept i h)) in
     record { low = leb→le _ _ (both-left (low? i n) (high? i n) t); high = ltb→lt _ _ (both-right (low? i n) (high? i n) t) }
 
 risen : (i : ℕ) → i < 192 → T (rises? i (getD roots i 0))
 unfolding right
-risen i h = let n = getD roots i 0 in both-right (both (low? i n) (high? i n)) (rises? i n) (swept i h)
+risen i h = let n = getD roots i 0 in both-right (both (low? i n) (high? i n)) (rises? i n) (both-left (both (both (low? i n) (high? i n)) (rises? i n)) (placed? i n) (swept i h))
 
 pub rises : (i : ℕ) → i < 191 → getD roots i 0 < getD roots (suc i) 0
 unfolding rises?
@@ -122,3 +130,11 @@ largest-entry i h = rw (entry-at i h) (root-at i h .low, λ n l. go n (ltb (getD
     go n true e l =
         let k : getD roots i 0 + 1 ≤ n = omega (arith, ltb-true (getD roots i 0) n e) in
         absurd (lt-irrefl _ (lt-of-lt-of-le (root-at i h .high) (le-trans (pow-le-pow-left k 192) l)))
+
+-- an entry, by its row
+pub entry-in : (i s : ℕ) → i < 192 → i / 8 ≡ s → entry i ≡ getD (row s) (i % 8) 0
+unfolding right placed?
+entry-in i s h e =
+    let n = getD roots i 0 in
+    let p = both-right (both (both (low? i n) (high? i n)) (rises? i n)) (placed? i n) (swept i h) in
+    entry-at i h ∙ eqb→eq _ _ p ∙ ap (λ (x : ℕ). getD (row x) (i % 8) 0) e
