@@ -12,15 +12,21 @@ struct muntinorris_answer right_report(struct muntinorris_device *d, uint8_t gen
 struct muntinorris_generator_answer right_generator(const struct muntinorris_device *d, uint8_t generator);
 struct muntinorris_mask_answer right_mask(const struct muntinorris_device *d, uint8_t channel);
 struct muntinorris_share_answer right_share(const struct muntinorris_device *d, uint8_t channel);
+struct muntinorris_pitch_answer right_pitch(uint8_t key, uint8_t sensitivity, uint16_t bend);
 
 static unsigned long calls;
+
+static int is_meant(const char *word)
+{
+    const char *wrong = getenv("WRONG");
+
+    return wrong && strcmp(wrong, word) == 0;
+}
 
 /* From the thousandth byte on, so that there is something in the record. */
 static int is_wrong(const char *word)
 {
-    const char *wrong = getenv("WRONG");
-
-    return calls >= 1000 && wrong && strcmp(wrong, word) == 0;
+    return calls >= 1000 && is_meant(word);
 }
 
 static void change(void *thing)
@@ -90,6 +96,16 @@ struct muntinorris_share_answer muntinorris_share(const struct muntinorris_devic
     struct muntinorris_share_answer a = right_share(d, channel);
 
     if (is_wrong("share"))
+        change(&a);
+    return a;
+}
+
+/* It has no record, and so waits for no byte. */
+struct muntinorris_pitch_answer muntinorris_pitch(uint8_t key, uint8_t sensitivity, uint16_t bend)
+{
+    struct muntinorris_pitch_answer a = right_pitch(key, sensitivity, bend);
+
+    if (is_meant(a.number == 0 ? "pitch" : "refused pitch"))
         change(&a);
     return a;
 }

@@ -18,6 +18,10 @@ enum Target {
     NothingCompleted,
     /// "The dearest single byte at most 15,000."
     SingleByte,
+    /// A pitch at most 100.
+    Pitch,
+    /// Nothing, as for a refused pitch.
+    None,
     /// The mean over a stream.
     Mean,
 }
@@ -43,6 +47,9 @@ pub fn run<S: Subject>() {
         count::<S>(64, &case);
     }
     count_report::<S>();
+    for (name, call, target) in PITCHES {
+        count_pitch::<S>(name, call, target);
+    }
     for stream in streams::all() {
         count_stream::<S>(stream);
     }
@@ -72,6 +79,8 @@ fn print_line(name: &str, calls: usize, target: Target) {
         Target::Theft => ("sum", "2000"),
         Target::NothingCompleted => ("sum", "100"),
         Target::SingleByte => ("sum", "15000"),
+        Target::Pitch => ("sum", "100"),
+        Target::None => ("sum", "-"),
         Target::Mean => ("mean", "-"),
     };
     println!("{name};{calls};{kind};{most}");
@@ -259,6 +268,22 @@ fn count_report<S: Subject>() {
         1,
         Target::SingleByte,
     );
+}
+
+/// Key, sensitivity and bend of the pitches that are counted.
+const PITCHES: [(&str, (u8, u8, u16), Target); 3] = [
+    ("pitch, centre", (60, 2, 8192), Target::Pitch),
+    // Below position 0, with a quotient that is not whole.
+    ("pitch, bent down", (0, 24, 1), Target::Pitch),
+    ("pitch, number 21", (60, 2, 16384), Target::None),
+];
+
+fn count_pitch<S: Subject>(name: &str, call: (u8, u8, u16), target: Target) {
+    let (key, sensitivity, bend) = black_box(call);
+    bench_mark();
+    black_box(S::pitch(key, sensitivity, bend));
+    bench_mark();
+    print_line(name, 1, target);
 }
 
 /// So many random cases are counted for the dearest of their kind.

@@ -1,4 +1,4 @@
-//! `bench`: what the proved library costs, beside the second implementation, on the same streams in one run.
+//! `bench`: what the proved library costs, beside the second implementation, on the same streams and pitches in one run.
 //!
 //! Without arguments it prints times, and fails if a target is missed or the sides answer differently. `--count proved` and `--count paper` are for the script `count`, which runs them
 //! under callgrind and prints instructions.

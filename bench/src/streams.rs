@@ -1,4 +1,4 @@
-//! The streams that both implementations are timed on.
+//! The streams, and the pitches, that both implementations are timed on.
 
 use random::Random;
 
@@ -25,6 +25,16 @@ pub fn all() -> Vec<Stream> {
         controllers(),
         worst_song(),
     ]
+}
+
+/// Calls for pitches: key, sensitivity and bend, all within their ranges.
+pub fn pitches() -> Vec<(u8, u8, u16)> {
+    let mut random = Random::new(5);
+    let mut call = || {
+        let (key, sensitivity) = (random.data(), random.below(25) as u8);
+        (key, sensitivity, random.below(16384) as u16)
+    };
+    (0..LENGTH).map(|_| call()).collect()
 }
 
 /// A MIP message for every device.

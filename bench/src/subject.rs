@@ -1,5 +1,5 @@
-//! What is measured: an implementation that takes bytes and reports through calls that are not inlined, so that both
-//! sides pay for a call.
+//! What is measured: an implementation that takes bytes and reports and gives pitches through calls that are not
+//! inlined, so that both sides pay for a call.
 
 /// An implementation with its answers reduced to what the measurement needs.
 pub trait Subject: Clone {
@@ -7,6 +7,8 @@ pub trait Subject: Clone {
     /// Takes a byte; true if it completed a message that was not refused.
     fn byte(&mut self, byte: u8) -> bool;
     fn report(&mut self, generator: u8) -> bool;
+    /// The octave and the entry of a pitch, also of a refused one.
+    fn pitch(key: u8, sensitivity: u8, bend: u16) -> (i8, u32);
 }
 
 #[derive(Clone)]
@@ -28,6 +30,12 @@ impl Subject for Proved {
     fn report(&mut self, generator: u8) -> bool {
         self.0.report(generator).what == proved::DONE
     }
+
+    #[inline]
+    fn pitch(key: u8, sensitivity: u8, bend: u16) -> (i8, u32) {
+        let answer = proved::pitch(key, sensitivity, bend);
+        (answer.octave, answer.entry)
+    }
 }
 
 #[derive(Clone)]
@@ -46,6 +54,12 @@ fn paper_report(device: &mut paper::Device, generator: u8) -> paper::Answer {
     device.report(generator)
 }
 
+#[no_mangle]
+#[inline(never)]
+fn paper_pitch(key: u8, sensitivity: u8, bend: u16) -> Result<paper::Pitch, paper::Number> {
+    paper::pitch(key, sensitivity, bend)
+}
+
 impl Subject for Paper {
     fn start(polyphony: u8) -> Paper {
         Paper(paper::Device::start(polyphony, 0).0)
@@ -62,5 +76,11 @@ impl Subject for Paper {
     #[inline]
     fn report(&mut self, generator: u8) -> bool {
         paper_report(&mut self.0, generator) == paper::Answer::Done
+    }
+
+    #[inline]
+    fn pitch(key: u8, sensitivity: u8, bend: u16) -> (i8, u32) {
+        let pitch = paper_pitch(key, sensitivity, bend).unwrap_or(paper::Pitch::REFUSED);
+        (pitch.octave, pitch.entry)
     }
 }

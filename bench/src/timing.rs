@@ -1,4 +1,4 @@
-//! Times both implementations on each stream and prints what a byte costs.
+//! Times both implementations on each stream, and on pitches, and prints what a byte or a pitch costs.
 //!
 //! The stream is cut into slices, and the two sides take each slice in alternation; of the times of a slice over several
 //! turns the median counts. So a machine that is busy with something else disturbs both sides alike, and little.
@@ -18,13 +18,14 @@ const TARGET: f64 = 8.0;
 /// Prints a row for each stream; false if a target was missed.
 pub fn run() -> bool {
     println!(
-        "medians of {TURNS} turns, the sides in alternation; ns a byte, million messages a second"
+        "medians of {TURNS} turns, the sides in alternation; ns a byte or pitch, million messages a second"
     );
     println!(
         "{:30} {:>8} {:>8} {:>7} {:>8} {:>8}  target",
         "stream", "proved", "paper", "ratio", "proved", "paper"
     );
     let rows: Vec<bool> = streams::all().iter().map(print_row).collect();
+    print_pitches();
     rows.into_iter().all(|met| met)
 }
 
@@ -51,6 +52,39 @@ fn print_row(stream: &Stream) -> bool {
         messages(paper),
     );
     met || !aimed
+}
+
+/// Prints what a pitch costs, over random calls within the ranges. It has no target.
+fn print_pitches() {
+    let calls = streams::pitches();
+    let (mut proved, mut paper) = (Vec::new(), Vec::new());
+    for _ in 0..TURNS {
+        let (seconds, sum) = time_pitches::<Proved>(&calls);
+        proved.push(seconds);
+        let (seconds, sum_too) = time_pitches::<Paper>(&calls);
+        paper.push(seconds);
+        assert_eq!(sum, sum_too, "the two sides answer differently");
+    }
+    let [proved, paper] = [proved, paper].map(|turns| median(turns) * 1e9 / calls.len() as f64);
+    println!(
+        "{:30} {proved:>8.1} {paper:>8.1} {:>7.2} {:>8} {:>8}  -",
+        "pitches",
+        proved / paper,
+        "-",
+        "-"
+    );
+}
+
+/// The seconds for these calls, and the sum of what they answered.
+fn time_pitches<S: Subject>(calls: &[(u8, u8, u16)]) -> (f64, i64) {
+    let clock = Instant::now();
+    let answered = calls.iter().map(|&call| {
+        let (key, sensitivity, bend) = black_box(call);
+        let (octave, entry) = S::pitch(key, sensitivity, bend);
+        i64::from(octave) + i64::from(entry)
+    });
+    let sum = answered.sum();
+    (clock.elapsed().as_secs_f64(), sum)
 }
 
 /// The seconds that both sides take for the stream: the sum of its slices' medians.

@@ -121,7 +121,7 @@ fn happen(device: &mut impl Implementation, event: Event) -> Given<Answer> {
 }
 
 /// What both sides gave, if it is the same and well-formed.
-fn same<T: PartialEq + fmt::Debug>(what: &str, a: Given<T>, b: Given<T>) -> Result<T, String> {
+pub fn same<T: PartialEq + fmt::Debug>(what: &str, a: Given<T>, b: Given<T>) -> Result<T, String> {
     let (a, b) = well_formed(what, a, b)?;
     if a == b {
         return Ok(a);

@@ -3,12 +3,13 @@
 //! "A field without meaning is 0", entries and ages behind the count "are 0", generators from the polyphony on "stay
 //! idle": what breaks such a sentence is a difference as well.
 
+use crate::pitches::Call;
 use crate::record::{Given, Implementation, Items, Malformed, Record, SysExBytes, IDLE};
-use paper::{Answer, Entry, GeneratorView, Number, Progress, State, Was};
+use paper::{Answer, Entry, GeneratorView, Number, Pitch, Progress, State, Was};
 use proved::{Device, RECORD_BYTES};
 use random::Random;
 
-const NUMBERS: [Number; 14] = [
+const NUMBERS: [Number; 15] = [
     Number::PolyphonyOutOfRange,
     Number::IdOutOfRange,
     Number::StrayData,
@@ -23,6 +24,7 @@ const NUMBERS: [Number; 14] = [
     Number::NoSuchGenerator,
     Number::GeneratorIdle,
     Number::NoSuchChannel,
+    Number::PitchOutOfRange,
 ];
 
 /// What the memory holds before a start, which "makes the record, whatever the memory held before", and beside it.
@@ -85,7 +87,7 @@ pub fn survive_rubbish(random: &mut Random, records: usize) -> Given<()> {
 }
 
 fn number_of(number: u8) -> Option<Number> {
-    NUMBERS.get(usize::from(number.wrapping_sub(1))).copied()
+    NUMBERS.into_iter().find(|&known| known as u8 == number)
 }
 
 fn answer_of(raw: proved::Answer) -> Given<Answer> {
@@ -241,6 +243,23 @@ fn query_of<T>(number: u8, rest: &[u8], value: Option<T>) -> Given<Result<T, Num
         (0, _, Some(value)) => Ok(Ok(value)),
         (_, Some(number), _) => Ok(Err(number)),
         _ => Err(Malformed(format!("number {number}, then {rest:?}"))),
+    }
+}
+
+pub fn pitch((key, sensitivity, bend): Call) -> Given<Result<Pitch, Number>> {
+    pitch_of(proved::pitch(key, sensitivity, bend))
+}
+
+/// A pitch, or a number "with entry 65536 and octave 0".
+pub fn pitch_of(raw: proved::PitchAnswer) -> Given<Result<Pitch, Number>> {
+    let pitch = Pitch {
+        octave: raw.octave,
+        entry: raw.entry,
+    };
+    match number_of(raw.number) {
+        None if raw.number == 0 => Ok(Ok(pitch)),
+        Some(number) if pitch == Pitch::REFUSED => Ok(Err(number)),
+        _ => Err(Malformed(format!("{raw:?}"))),
     }
 }
 

@@ -1,7 +1,8 @@
-//! `differential`: the proved library and the second implementation on the same events.
+//! `differential`: the proved library and the second implementation on the same events, and asked for the same pitches.
 //!
-//! `--events N` and `--seed S` choose the run; `--self-test` shows instead that the comparison finds wrong
-//! variants. The exit code is 0 only if nothing differed and every answer was reached.
+//! `--events N` and `--seed S` choose the run; `--all-pitches` asks for every pitch there is, not for a sample;
+//! `--self-test` shows instead that the comparison finds wrong variants. The exit code is 0 only if nothing differed
+//! and every answer was reached.
 
 mod book;
 mod claims;
@@ -9,7 +10,9 @@ mod compare;
 mod drums;
 mod library;
 mod lists;
+mod pitches;
 mod plain;
+mod plain_pitch;
 mod record;
 mod reference;
 mod self_test;
@@ -26,6 +29,7 @@ use std::time::Instant;
 struct Options {
     events: u64,
     seed: u64,
+    all_pitches: bool,
     self_test: bool,
 }
 
@@ -33,6 +37,7 @@ fn options() -> Result<Options, String> {
     let mut options = Options {
         events: 5_000_000,
         seed: 1,
+        all_pitches: false,
         self_test: false,
     };
     let mut arguments = std::env::args().skip(1);
@@ -46,6 +51,7 @@ fn options() -> Result<Options, String> {
         match argument.as_str() {
             "--events" => options.events = number()?,
             "--seed" => options.seed = number()?,
+            "--all-pitches" => options.all_pitches = true,
             "--self-test" => options.self_test = true,
             _ => return Err(format!("unknown argument {argument}")),
         }
@@ -87,14 +93,16 @@ fn differential(options: &Options) -> Result<(), String> {
         slip: None,
     };
     let clock = Instant::now();
-    let (reached, failure) = comparison.run(options.seed, options.events);
+    let (mut reached, failure) = comparison.run(options.seed, options.events);
     if let Some(failure) = failure {
         return Err(format!(
             "seed {}, second implementation against proved library: {failure}",
             options.seed
         ));
     }
-    print(&reached, clock.elapsed().as_secs_f64());
+    let seconds = clock.elapsed().as_secs_f64();
+    reached.tally.refused_pitches(pitches(options)?);
+    print(&reached, seconds);
     rubbish(options.seed)?;
     let mut missing = reached.tally.missing();
     if reached.claims.within_share_and_full == 0 || reached.claims.thefts_and_refusals == 0 {
@@ -105,6 +113,25 @@ fn differential(options: &Options) -> Result<(), String> {
     }
     println!("differential: ok");
     Ok(())
+}
+
+/// Pitches of both sides; how many of them were refused.
+fn pitches(options: &Options) -> Result<u64, String> {
+    let clock = Instant::now();
+    let compared = if options.all_pitches {
+        pitches::compare(pitches::all(), reference::pitch, library::pitch)?
+    } else {
+        let mut random = Random::new(options.seed);
+        let sample = pitches::sample(&mut random);
+        pitches::compare(sample, reference::pitch, library::pitch)?
+    };
+    println!(
+        "{} pitches compared, {} of them refused, {:.1} s",
+        compared.calls,
+        compared.refused,
+        clock.elapsed().as_secs_f64()
+    );
+    Ok(compared.refused)
 }
 
 /// Records that no start made.

@@ -15,6 +15,7 @@ macro_rules! mistakes {
         pub const MISTAKES: &[Mistake] = &[$(Mistake::$name,)*];
     };
 }
+pub(crate) use mistakes;
 
 mistakes! {
     // Start.

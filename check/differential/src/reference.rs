@@ -1,11 +1,18 @@
 //! The second implementation, the crate `paper`, as one side of the comparison.
 
+use crate::pitches::Call;
 use crate::record::{Given, Implementation, Items, Record, SysExBytes, IDLE};
-use paper::{Answer, Device, Entry, GeneratorView, Number, Progress, SysEx, MOST_GENERATORS};
+use paper::{
+    Answer, Device, Entry, GeneratorView, Number, Pitch, Progress, SysEx, MOST_GENERATORS,
+};
 
 pub fn start(polyphony: u8, id: u8) -> (Device, Given<Answer>) {
     let (device, answer) = Device::start(polyphony, id);
     (device, Ok(answer))
+}
+
+pub fn pitch((key, sensitivity, bend): Call) -> Given<Result<Pitch, Number>> {
+    Ok(paper::pitch(key, sensitivity, bend))
 }
 
 /// The bytes of a SysEx that overflowed count one more than were kept.

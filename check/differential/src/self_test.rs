@@ -3,7 +3,9 @@
 use crate::book::SLIPS;
 use crate::compare::{Comparison, Failure};
 use crate::plain::{Mistake, Plain, MISTAKES};
-use crate::reference;
+use crate::plain_pitch::{self, PlainPitch};
+use crate::{library, pitches, reference};
+use random::Random;
 
 /// Every wrong variant must be found within so many events.
 const WITHIN: u64 = 1_000_000;
@@ -52,7 +54,49 @@ pub fn run(seed: u64) -> Vec<String> {
         let name = format!("book without {slip:?}");
         complaints.extend(expect(&name, "demand 3", comparison.run(seed, WITHIN).1));
     }
+    complaints.extend(wrong_pitches(seed));
+    complaints.extend(wrong_entries(seed));
     complaints
+}
+
+/// Every mistake about pitches, on one side.
+fn wrong_pitches(seed: u64) -> Vec<String> {
+    let mut complaints = Vec::new();
+    if let Some(found) = pitch_difference(PlainPitch::new(None), seed) {
+        complaints.push(format!("no mistake at all: {found}"));
+    }
+    for &mistake in plain_pitch::MISTAKES {
+        match pitch_difference(PlainPitch::new(Some(mistake)), seed) {
+            Some(found) if found.starts_with("pitch: ") => println!("{mistake:?}: found, {found}"),
+            found => complaints.push(format!(
+                "{mistake:?}: expected \"pitch: \", found {found:?}"
+            )),
+        }
+    }
+    complaints
+}
+
+/// Each entry of the table, one higher and one lower.
+fn wrong_entries(seed: u64) -> Vec<String> {
+    let places = (0..plain_pitch::ENTRIES).flat_map(|at| [(at, 1), (at, -1)]);
+    let missed: Vec<String> = places
+        .filter(|&(at, more)| {
+            let wrong = PlainPitch::new(None).with_another_entry(at, more);
+            pitch_difference(wrong, seed).is_none()
+        })
+        .map(|(at, more)| format!("entry {at} with {more} added: not found"))
+        .collect();
+    if missed.is_empty() {
+        println!("each entry one higher, each one lower: found");
+    }
+    missed
+}
+
+/// What the sample finds of a pitch's plain form.
+fn pitch_difference(plain: PlainPitch, seed: u64) -> Option<String> {
+    let mut random = Random::new(seed);
+    let wrong = |call| library::pitch_of(plain.answer(call));
+    pitches::compare(pitches::sample(&mut random), reference::pitch, wrong).err()
 }
 
 fn one_side(mistake: Mistake, seed: u64) -> Option<Failure> {

@@ -17,22 +17,27 @@ const REPORTS: [&str; 3] = [
     "report of a releasing one",
 ];
 
-const NUMBERS: [&str; 14] = [
-    "P not 1 to 64",
-    "ID above 126",
-    "stray data byte",
-    "SysEx cut",
-    "MIP too long",
-    "MIP odd or empty",
-    "MIP channel above 15",
-    "MIP channel twice",
-    "MIP value falls",
-    "channel masked",
-    "none to steal",
-    "no such generator",
-    "generator idle",
-    "no such channel",
+/// Document 01's numbers, each one place before its own, and that of a pitch behind them.
+const NUMBERS: [(Number, &str); 15] = [
+    (Number::PolyphonyOutOfRange, "P not 1 to 64"),
+    (Number::IdOutOfRange, "ID above 126"),
+    (Number::StrayData, "stray data byte"),
+    (Number::SysExCut, "SysEx cut"),
+    (Number::MipTooLong, "MIP too long"),
+    (Number::MipOddOrEmpty, "MIP odd or empty"),
+    (Number::MipChannelAbove15, "MIP channel above 15"),
+    (Number::MipChannelTwice, "MIP channel twice"),
+    (Number::MipValueFalls, "MIP value falls"),
+    (Number::ChannelMasked, "channel masked"),
+    (Number::NoneToSteal, "none to steal"),
+    (Number::NoSuchGenerator, "no such generator"),
+    (Number::GeneratorIdle, "generator idle"),
+    (Number::NoSuchChannel, "no such channel"),
+    (Number::PitchOutOfRange, "pitch out of range"),
 ];
+
+/// A place for each number, the highest included; those that nobody has stay 0.
+const PLACES: usize = 1 + Number::PitchOutOfRange as usize;
 
 #[derive(Clone, Debug, Default)]
 pub struct Tally {
@@ -40,9 +45,9 @@ pub struct Tally {
     /// Accepted reports, by what the generator was.
     reports: [u64; 3],
     /// Numbers that starts, bytes and reports answered.
-    numbers: [u64; 14],
-    /// Numbers that queries gave, apart: 12 has both.
-    queries: [u64; 14],
+    numbers: [u64; PLACES],
+    /// Numbers that queries and pitches gave, apart: 12 has both.
+    queries: [u64; PLACES],
 }
 
 impl Tally {
@@ -56,7 +61,7 @@ impl Tally {
                 Was::Stolen => 4,
             },
             Answer::Refused(number) | Answer::NoteRefused { number, .. } => {
-                self.numbers[number as usize - 1] += 1;
+                self.numbers[number as usize] += 1;
                 return;
             }
         };
@@ -74,7 +79,12 @@ impl Tally {
     }
 
     pub fn query(&mut self, number: Number) {
-        self.queries[number as usize - 1] += 1;
+        self.queries[number as usize] += 1;
+    }
+
+    /// So many pitches were refused.
+    pub fn refused_pitches(&mut self, count: u64) {
+        self.queries[Number::PitchOutOfRange as usize] += count;
     }
 
     /// The kinds and numbers that never came.
@@ -85,17 +95,21 @@ impl Tally {
             .collect()
     }
 
-    /// Each kind and number with its count. Number 14 comes of queries alone, 12 of queries as well.
+    /// Each kind and number with its count. Number 14 comes of queries alone, 21 of pitches, 12 of queries as well.
     fn rows(&self) -> impl Iterator<Item = (String, u64)> + '_ {
-        let row =
-            |number: usize, count: u64| (format!("{number:2} {}", NUMBERS[number - 1]), count);
+        let row = |(number, words): (Number, &str), counts: &[u64; PLACES]| {
+            let count = counts[number as usize];
+            (format!("{:2} {words}", number as u8), count)
+        };
         let kinds = KINDS.iter().zip(self.kinds);
         let kinds = kinds.chain(REPORTS.iter().zip(self.reports));
         let kinds = kinds.map(|(name, count)| (name.to_string(), count));
-        let numbers = (1..=13).map(move |number| row(number, self.numbers[number - 1]));
+        let numbers = NUMBERS[..13].iter();
+        let numbers = numbers.map(move |&named| row(named, &self.numbers));
         let query = |(name, count)| (format!("{name}, query"), count);
-        let queries = [12, 14].map(|number| query(row(number, self.queries[number - 1])));
-        kinds.chain(numbers).chain(queries)
+        let queries = [12, 14].map(|number| query(row(NUMBERS[number - 1], &self.queries)));
+        let pitches = [row(NUMBERS[14], &self.queries)];
+        kinds.chain(numbers).chain(queries).chain(pitches)
     }
 }
 

@@ -1,10 +1,11 @@
-//! Document 01, "The note allocator of a scalable polyphony module", written by hand in plain Rust.
+//! Document 01, "The note allocator of a scalable polyphony module", and ticket 7 of document 02, the pitch
+//! of a note, written by hand in plain Rust.
 //!
-//! This is a second implementation, made from the paper alone. It serves as the other side of the
+//! This is a second implementation, made from the papers alone. It serves as the other side of the
 //! differential test and as the baseline of the benchmark, so it is written as for a small sound
 //! module: fixed arrays, bit sets for the generators, no allocation, no panic on any input.
 //!
-//! Quoted words in the comments are the paper's.
+//! Quoted words in the comments are the papers'.
 
 mod age;
 mod answer;
@@ -13,6 +14,7 @@ mod device;
 mod drums;
 mod generators;
 mod parser;
+mod pitch;
 mod table;
 
 pub use answer::{Answer, Number, Was};
@@ -20,4 +22,5 @@ pub use channel::Channel;
 pub use device::Device;
 pub use generators::{GeneratorView, State, MOST_GENERATORS};
 pub use parser::{Parser, Progress, SysEx, HEAD_BYTES, PAIR_BYTES};
+pub use pitch::{pitch, Pitch};
 pub use table::{Entry, Table};

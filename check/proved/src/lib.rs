@@ -1,4 +1,4 @@
-//! The proved library through its C header, `include/muntinorris.h`: the same structures, the same six calls.
+//! The proved library through its C header, `include/muntinorris.h`: the same structures, the same seven calls.
 //!
 //! The only unsafe code is here. The header wants a record that a start made; on any other bytes a call "still returns, and
 //! touches no memory but the record", so that nothing here can go wrong for Rust.
@@ -45,6 +45,15 @@ pub struct MaskAnswer {
 pub struct ShareAnswer {
     pub number: u8,
     pub share: u8,
+}
+
+/// `struct muntinorris_pitch_answer`.
+#[repr(C)]
+#[derive(Clone, Copy, Debug, PartialEq, Eq)]
+pub struct PitchAnswer {
+    pub entry: u32,
+    pub octave: i8,
+    pub number: u8,
 }
 
 /// `struct muntinorris_parser`.
@@ -125,6 +134,14 @@ extern "C" {
     fn muntinorris_generator(device: *const Device, generator: u8) -> GeneratorAnswer;
     fn muntinorris_mask(device: *const Device, channel: u8) -> MaskAnswer;
     fn muntinorris_share(device: *const Device, channel: u8) -> ShareAnswer;
+    fn muntinorris_pitch(key: u8, sensitivity: u8, bend: u16) -> PitchAnswer;
+}
+
+/// The one call that wants no record.
+#[inline]
+pub fn pitch(key: u8, sensitivity: u8, bend: u16) -> PitchAnswer {
+    // SAFETY: numbers go in and come out; no memory is lent.
+    unsafe { muntinorris_pitch(key, sensitivity, bend) }
 }
 
 impl Device {
