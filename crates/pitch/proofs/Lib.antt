@@ -1,3 +1,4 @@
 pub mod Roots
 pub mod Floor
 pub mod Rising
+pub mod Reached

@@ -11,6 +11,7 @@
 //     T           the shares of channels 1 to 16 in one line, - for a masked channel
 //     W           who plays: a line as that of G for each generator that is not idle
 //     C cc        the eleven numbers of channel cc, in the order of document 01, "The device record"
+//     K kk ss mm ll  the octave and entry of key kk with sensitivity ss and bend 128 × mm + ll
 //
 // A refused query answers its number only. Any other line is answered `malformed` and has no effect; an empty line has no answer. Before the first P the device
 // is one with P 1 and own ID 0. Assumes the contracts of the C library's read and write, and nothing else.
@@ -21,6 +22,7 @@ use device::Device;
 use events::Event;
 use lines::Offset;
 use lines::put_field;
+use pitch::PitchAnswer;
 use queries::GeneratorAnswer;
 use shares::MaskAnswer;
 use shares::ShareAnswer;
@@ -300,6 +302,21 @@ fn put_numbers(page: &mut [u8], at: usize, x: Channel) -> usize {
     put(page, d, b"\n")
 }
 
+fn put_pitch(page: &mut [u8], at: usize, a: PitchAnswer) -> usize {
+    match a {
+        PitchAnswer::Sounds(p) => {
+            let k = put(page, at, b"pitch");
+            pitch_lines::put_pitch(page, k, p)
+        }
+        PitchAnswer::OutOfRange => put_refused(page, at, 21),
+    }
+}
+
+fn put_pitch_of(page: &mut [u8], at: usize, key: u8, sensitivity: u8, msb: u8, lsb: u8) -> usize {
+    let bend = (msb as u16) * 128 + (lsb as u16);
+    put_pitch(page, at, pitch::pitch_of(key, sensitivity, bend))
+}
+
 // The answer to a command with one number that asks the device.
 fn put_asked(page: &mut [u8], at: usize, d: Device, command: u8, n: u8) -> usize {
     if command == b'G' {
@@ -401,6 +418,17 @@ fn run(s: Bench, page: &mut [u8]) -> Bench {
     }
     if (command == b'R') & (count == 1) {
         return take(s, page, Offset::Nowhere, Event::Report(numbers[0]));
+    }
+    if (command == b'K') & (count == 4) {
+        let used = put_pitch_of(
+            page,
+            s.used,
+            numbers[0],
+            numbers[1],
+            numbers[2],
+            numbers[3],
+        );
+        return with_used(s, used);
     }
     with_used(s, put_told(page, s.used, d, command, count, numbers[0]))
 }
