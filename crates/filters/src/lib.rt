@@ -177,6 +177,10 @@ fn list_all(page: &mut [u8]) -> bool {
     read_all(begin(Program::Listing), page)
 }
 
+fn pitch_all(page: &mut [u8]) -> bool {
+    read_all(begin(Program::Pitches), page)
+}
+
 // The exit status of the listing program: 0, or 1 if reading or writing failed.
 #[no_mangle]
 pub extern "C" fn listing_status() -> u32
@@ -194,9 +198,5 @@ pub extern "C" fn pitches_status() -> u32
 {
     let mut space = empty_page();
     let page: &mut [u8] = &mut space;
-    if read_all(begin(Program::Pitches), page) {
-        1
-    } else {
-        0
-    }
+    if pitch_all(page) { 1 } else { 0 }
 }

@@ -10,8 +10,8 @@ empty-page-requires c κs = search needs
 slice-aggregate-page : tie.Need-slice-aggregate-page
 slice-aggregate-page c = search needs
 
-run-requires : tie.Need-run-requires
-run-requires c κs = search needs
+list-all-requires : tie.Need-list-all-requires
+list-all-requires c κs = search needs
 
 returns : tie.Need-returns
 returns c = search needs
@@ -21,4 +21,4 @@ returns-2 c = search needs
 
 pub listing-status-spec : {M : Type 1} → statement M
 listing-status-spec =
-    tie.close (tie.spec empty-page-requires slice-aggregate-page run-requires returns returns-2)
+    tie.close (tie.spec empty-page-requires slice-aggregate-page list-all-requires returns returns-2)

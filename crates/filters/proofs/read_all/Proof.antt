@@ -8,10 +8,10 @@ use Rattle.filters.proofs.read_all.Statement.{statement}
 use Rattle.filters.proofs.read_all.Tie as tie
 
 abbrev Inv-loop : tie.InvT-loop
-Inv-loop page₀ turns₀ k₀ more₀ failed₀ page turns k more failed = length page ≡ length page₀
+Inv-loop page₀ turns₀ kept₀ more₀ failed₀ page turns kept more failed = length page ≡ length page₀
 
 abbrev μ-loop : tie.MeasureT-loop
-μ-loop page₀ turns₀ k₀ more₀ failed₀ page turns k more failed = turns + 0
+μ-loop page₀ turns₀ kept₀ more₀ failed₀ page turns kept more failed = turns + 0
 
 loop-holds : tie.Need-loop-holds Inv-loop μ-loop
 loop-holds c = refl

@@ -1,0 +1,24 @@
+-- `filters::pitches_status` has two answers.
+-- Assumes nothing.
+use borrow.Author.Needs.{needs}
+use Rattle.filters.proofs.pitches_status.Statement.{statement}
+use Rattle.filters.proofs.pitches_status.Tie as tie
+
+empty-page-requires : tie.Need-empty-page-requires
+empty-page-requires c κs = search needs
+
+slice-aggregate-page : tie.Need-slice-aggregate-page
+slice-aggregate-page c = search needs
+
+pitch-all-requires : tie.Need-pitch-all-requires
+pitch-all-requires c κs = search needs
+
+returns : tie.Need-returns
+returns c = search needs
+
+returns-2 : tie.Need-returns-2
+returns-2 c = search needs
+
+pub pitches-status-spec : {M : Type 1} → statement M
+pitches-status-spec =
+    tie.close (tie.spec empty-page-requires slice-aggregate-page pitch-all-requires returns returns-2)
