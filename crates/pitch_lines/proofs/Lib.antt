@@ -1,3 +1,4 @@
 pub mod Refused
 pub mod Room
 pub mod Parts
+pub mod Sentences
