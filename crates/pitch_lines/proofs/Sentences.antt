@@ -1,47 +1,99 @@
--- What an input is answered, said of lines and not of bytes: the state after each byte is worked out from the start of the line on.
+-- What an input is answered, said of lines and their fields (specs/Fields) and not of bytes.
 -- Assumes nothing.
-use Prim.Native.Nat.{ℕ, zero, suc, _+_, _-_, _*_, _/_, _%_, _^_, _≤_, _<_}
+use Prim.Native.Nat.{ℕ, _+_, _-_, _^_, _<_}
 use mathlib.Core.Path.{_≡_, refl, sym, ap, _∙_, subst}
 use mathlib.Core.Bool.{Bool, true, false, not, _&&_}
 use mathlib.Core.List.{List, [], _∷_, _++_, append-nil, append-assoc}
-use native.Mathlib.Nat.{pow-suc}
 use native.Mathlib.Omega.{arith}
-use lib.Dec.{T, leb, ltb, eqb, lit<}
-use borrow.Author.Tests.{lt-ltb, le-ltb, ltb-true, ltb-false, le-leb, leb-true, ne-eqb, eqb-false}
-use Rattle.loops.specs.Cases.{if_then_else_, atMost}
+use lib.Dec.{eqb, leb, lit<}
+use borrow.Author.Tests.{ne-eqb, eqb-true, leb-true}
+use Rattle.loops.specs.Cases.{if_then_else_}
 use Rattle.text.specs.Text.{decimalWithin, decimal}
-use Rattle.pitch.specs.Pitch.{pitchOf}
+use Rattle.pitch.specs.Pitch.{position, pitchAt, pitchOf}
+use Rattle.pitch.proofs.Roots.{entry-at}
 use Rattle.pitch_lines.specs.declared.Call.{Call}
-use Rattle.pitch_lines.specs.PitchLines.{answerLine, malformedLine, newCall, malformed, isDigit, withDigit, afterDigit, isParted, afterComma, read, lineAnswer, answer, after, answersTo, afterAll, isEmpty, endAnswer, answers}
-use Rattle.pitch_lines.proofs.Refused.{key-cut, sensitivity-cut, bend-cut}
-use Rattle.pitch_lines.proofs.Parts.{after-parts, answers-parts}
+use Rattle.pitch_lines.specs.PitchLines.{pitchFields, answerLine, malformedLine, newCall, malformed, isDigit, afterDigit, isParted, afterComma, read, lineAnswer, answer, after, answersTo, afterAll, isEmpty, endAnswer, answers}
+use Rattle.pitch_lines.specs.Fields.{isField, areFields, behind, numberFrom, isNumber, spelled, fieldsAnswer}
+use Rattle.pitch_lines.proofs.Fields.{from, from-parts, from-byte, from-end, started, nothing, at, both, told, fields-told}
+use Rattle.pitch_lines.proofs.Written.{written}
 
--- ---- what the rest of an input is answered, from a line on that is read so far
+-- ---- a line
 
-unfoldable from : Call → List ℕ → List ℕ
-from c bs = answersTo c bs ++ endAnswer (afterAll c bs)
+-- a test that decides nothing
+never : (x : Bool) (a b : List ℕ) → (if x && false then a else b) ≡ b
+never true a b = refl
+never false a b = refl
 
-from-parts : (c : Call) (xs ys : List ℕ) → from c (xs ++ ys) ≡ answersTo c xs ++ from (afterAll c xs) ys
-unfolding from
-from-parts c xs ys =
-    rw (answers-parts c xs ys, after-parts c xs ys)
-    (append-assoc (answersTo c xs) (answersTo (afterAll c xs) ys) (endAnswer (afterAll (afterAll c xs) ys)))
+either : (x : Bool) (b : List ℕ) → (if x && true then b else b) ≡ b
+either true b = refl
+either false b = refl
 
-from-byte : (c : Call) (b : ℕ) (bs : List ℕ) → eqb b 10 ≡ false → from c (b ∷ bs) ≡ from (read c b) bs
-unfolding from answersTo afterAll answer after
-from-byte c b bs e = rw e
+all-three : (x y z : Bool) (a b : List ℕ)
+    → (if x && true then (if y && true then (if z && true then a else b) else b) else b) ≡ (if x && (y && z) then a else b)
+all-three true true true a b = refl
+all-three true true false a b = refl
+all-three true false z a b = refl
+all-three false y z a b = refl
 
-from-end : (c : Call) (bs : List ℕ) → from c (10 ∷ bs) ≡ lineAnswer c ++ answers bs
-unfolding from answersTo afterAll answer after answers
-from-end c bs = append-assoc (lineAnswer c) (answersTo newCall bs) (endAnswer (afterAll newCall bs))
+fields-answer : (f : List ℕ) (gs : List (List ℕ)) → told 0 0 0 f gs ≡ fieldsAnswer f gs
+unfolding told fieldsAnswer
+fields-answer f [] = never (isNumber f) _ _
+fields-answer f (g ∷ []) = rw (never (isNumber g)) (either (isNumber f) _)
+fields-answer f (g ∷ h ∷ []) = all-three (isNumber f) (isNumber g) (isNumber h) _ _
+fields-answer f (g ∷ h ∷ i ∷ gs) = rw (never (isNumber h), either (isNumber g)) (either (isNumber f) _)
 
-started : (bs : List ℕ) → answers bs ≡ from newCall bs
-unfolding answers from
-started bs = refl
+-- a line is answered by its fields: three numbers are a call, and any other line is malformed
+pub line-answered : (f : List ℕ) (gs : List (List ℕ)) → isField f ≡ true → areFields gs ≡ true → answers (f ++ behind gs) ≡ fieldsAnswer f gs
+unfolding at
+line-answered f gs e es = started (f ++ behind gs) ∙ fields-told 0 0 0 f gs e es ∙ fields-answer f gs
 
-nothing : answers [] ≡ []
-unfolding answers answersTo afterAll endAnswer
-nothing = refl
+-- every line has fields
+pub record Cut (xs : List ℕ) : Type 0 where
+  pub first : List ℕ
+  pub others : List (List ℕ)
+  pub is : xs ++ 10 ∷ [] ≡ first ++ behind others
+  pub first-field : isField first ≡ true
+  pub other-fields : areFields others ≡ true
+
+pub noEnd : List ℕ → Bool
+noEnd [] = true
+noEnd (x ∷ xs) = not (eqb x 10) && noEnd xs
+
+pub cut : (xs : List ℕ) → noEnd xs ≡ true → Cut xs
+unfolding noEnd isField areFields
+cut [] e = record { first = []; others = []; is = refl; first-field = refl; other-fields = refl }
+cut (x ∷ xs) e = let p = both (not (eqb x 10)) (noEnd xs) e in go (eqb x 44) refl (p .0) (cut xs (p .1))
+  where
+    go : (b : Bool) → eqb x 44 ≡ b → not (eqb x 10) ≡ true → Cut xs → Cut (x ∷ xs)
+    go true q n c = record { first = []; others = c .first ∷ c .others; is = rw (eqb-true x 44 q, c .is); first-field = refl; other-fields = rw (c .first-field) (c .other-fields) }
+    go false q n c = record { first = x ∷ c .first; others = c .others; is = rw (c .is); first-field = rw (q, n) (c .first-field); other-fields = c .other-fields }
+
+-- ---- a call
+
+number-field : (d : Bool) (xs : List ℕ) → numberFrom d xs ≡ true → isField xs ≡ true
+unfolding numberFrom isField
+number-field d [] e = refl
+number-field d (x ∷ xs) e =
+    let p = both (isDigit x) (numberFrom true xs) e in
+    let h = leb-true 48 x (both (leb 48 x) (leb x 57) (p .0) .0) in
+    rw (ne-eqb x 44 (λ q. omega arith), ne-eqb x 10 (λ q. omega arith)) (number-field true xs (p .1))
+
+-- a line of three numbers, of any length and with any leading zeros, is answered by their call: also where a number is larger than those that are kept
+pub call-answered : (ks ss bs : List ℕ) → isNumber ks ≡ true → isNumber ss ≡ true → isNumber bs ≡ true
+    → answers (ks ++ behind (ss ∷ bs ∷ [])) ≡ answerLine (pitchOf (spelled 0 ks) (spelled 0 ss) (spelled 0 bs))
+unfolding fieldsAnswer areFields
+call-answered ks ss bs e f g =
+    line-answered ks (ss ∷ bs ∷ []) (number-field false ks e) (rw (number-field false ss f, number-field false bs g)) ∙ rw (e, f, g)
+
+-- a call as a program writes it, of any three numbers up to twenty digits
+pub decimal-call : (k s b : ℕ) → k < 10 ^ 20 → s < 10 ^ 20 → b < 10 ^ 20 → answers (decimal k ++ behind (decimal s ∷ decimal b ∷ [])) ≡ answerLine (pitchOf k s b)
+decimal-call k s b h i j =
+    let x = written 19 k h in
+    let y = written 19 s i in
+    let z = written 19 b j in
+    call-answered (decimal k) (decimal s) (decimal b) (x .number) (y .number) (z .number) ∙ rw (x .is, y .is, z .is)
+
+-- ---- several lines
 
 -- a line is answered whatever stood before it and whatever comes behind it
 pub lines-apart : (xs ys : List ℕ) → answers (xs ++ 10 ∷ ys) ≡ answers (xs ++ 10 ∷ []) ++ answers ys
@@ -69,128 +121,22 @@ last-line xs b e =
     let z : from (read c b) (10 ∷ []) ≡ lineAnswer (read c b) = from-end (read c b) [] ∙ rw (nothing, append-nil (lineAnswer (read c b))) in
     rw (started (xs ++ b ∷ []), started (xs ++ b ∷ 10 ∷ []), from-parts newCall xs (b ∷ []), from-parts newCall xs (b ∷ 10 ∷ []), from-byte c b [] e, from-byte c b (10 ∷ []) e, a, z)
 
--- ---- numbers
+-- ---- some lines
 
--- one digit or more, the first of them perhaps read already; and the number that digits spell behind those of n
-pub numberFrom : Bool → List ℕ → Bool
-numberFrom d [] = d
-numberFrom d (x ∷ xs) = isDigit x && numberFrom true xs
+-- an empty line, and `60,2`
+pub empty-line : answers (10 ∷ []) ≡ malformedLine
+unfolding isField areFields fieldsAnswer
+empty-line = line-answered [] [] refl refl
 
-abbrev pub isNumber : List ℕ → Bool
-isNumber xs = numberFrom false xs
+pub two-numbers : answers (54 ∷ 48 ∷ 44 ∷ 50 ∷ 10 ∷ []) ≡ malformedLine
+unfolding isField areFields fieldsAnswer
+two-numbers = line-answered (54 ∷ 48 ∷ []) ((50 ∷ []) ∷ []) refl refl
 
-pub spelled : ℕ → List ℕ → ℕ
-spelled n [] = n
-spelled n (x ∷ xs) = spelled (10 * n + (x - 48)) xs
+-- `128,0,0` is answered `21,0,65536`, and `0,24,0`, the lowest of all, `0,-2,65536`
+pub refused-call : answers (49 ∷ 50 ∷ 56 ∷ 44 ∷ 48 ∷ 44 ∷ 48 ∷ 10 ∷ []) ≡ 50 ∷ 49 ∷ 44 ∷ 48 ∷ 44 ∷ 54 ∷ 53 ∷ 53 ∷ 51 ∷ 54 ∷ 10 ∷ []
+unfolding numberFrom spelled pitchOf answerLine pitchFields decimalWithin
+refused-call = call-answered (49 ∷ 50 ∷ 56 ∷ []) (48 ∷ []) (48 ∷ []) refl refl refl
 
--- a line within a number
-at : ℕ → Bool → ℕ → ℕ → ℕ → Call
-at r d k s n = record { reading = r; digit = d; key = k; sensitivity = s; bend = atMost 65535 n }
-
-both : (x y : Bool) → (x && y) ≡ true → (x ≡ true) × (y ≡ true)
-both true y e = (refl, e)
-both false y e = absurd (subst T (sym e) tt)
-
--- a number that is kept as 65535 stays that, whatever digit comes behind it
-kept : (n d : ℕ) → withDigit (atMost 65535 n) d ≡ atMost 65535 (10 * n + d)
-kept n d = go (ltb n 65535) refl
-  where
-    go : (x : Bool) → ltb n 65535 ≡ x → atMost 65535 (10 * (if x then n else 65535) + d) ≡ atMost 65535 (10 * n + d)
-    go true e = refl
-    go false e =
-        let h = ltb-false n 65535 e in
-        rw (le-ltb (10 * 65535 + d) 65535 (omega arith), le-ltb (10 * n + d) 65535 (omega arith))
-
-module _ (r k s : ℕ) where
-  from-digit : (d : Bool) (n x : ℕ) (ys : List ℕ) → isDigit x ≡ true → from (at r d k s n) (x ∷ ys) ≡ from (at r true k s (10 * n + (x - 48))) ys
-  unfolding at read afterDigit
-  from-digit d n x ys e =
-      let h = leb-true 48 x (both (leb 48 x) (leb x 57) e .0) in
-      from-byte (at r d k s n) x ys (ne-eqb x 10 (λ q. omega arith)) ∙ rw (e, kept n (x - 48))
-
-  from-number : (d : Bool) (n : ℕ) (xs ys : List ℕ) → numberFrom d xs ≡ true → from (at r d k s n) (xs ++ ys) ≡ from (at r true k s (spelled n xs)) ys
-  unfolding numberFrom spelled
-  from-number d n [] ys e = rw e
-  from-number d n (x ∷ xs) ys e =
-      let h = both (isDigit x) (numberFrom true xs) e in
-      from-digit d n x (xs ++ ys) (h .0) ∙ from-number true (10 * n + (x - 48)) xs ys (h .1)
-
-  from-comma : (n : ℕ) (ys : List ℕ) → r < 2 → from (at r true k s n) (44 ∷ ys) ≡ from (at (r + 1) false s (atMost 65535 n) 0) ys
-  unfolding at read afterComma
-  from-comma n ys h = from-byte (at r true k s n) 44 ys refl ∙ rw (lt-ltb r 2 h)
-
-  from-call : (n : ℕ) → r ≡ 2 → from (at r true (atMost 65535 k) (atMost 65535 s) n) (10 ∷ []) ≡ answerLine (pitchOf k s n)
-  unfolding at lineAnswer
-  from-call n e =
-      from-end (at r true (atMost 65535 k) (atMost 65535 s) n) []
-      ∙ rw (e, nothing, append-nil (answerLine (pitchOf (atMost 65535 k) (atMost 65535 s) (atMost 65535 n))), bend-cut 65535 (atMost 65535 k) (atMost 65535 s) n (lit< tt), sensitivity-cut 65535 (atMost 65535 k) s n (lit< tt), key-cut 65535 k s n (lit< tt))
-
--- three texts, a comma between them, and the line's end
-abbrev pub line : List ℕ → List ℕ → List ℕ → List ℕ
-line ks ss bs = ks ++ 44 ∷ ss ++ 44 ∷ bs ++ 10 ∷ []
-
--- A line of three numbers, of any length and with any leading zeros, is answered by the line of their call: also the numbers that are not kept as they are
-pub call-answered : (ks ss bs : List ℕ) → isNumber ks ≡ true → isNumber ss ≡ true → isNumber bs ≡ true
-    → answers (line ks ss bs) ≡ answerLine (pitchOf (spelled 0 ks) (spelled 0 ss) (spelled 0 bs))
-unfolding at
-call-answered ks ss bs e f g =
-    let k = spelled 0 ks in
-    let s = spelled 0 ss in
-    let a : line ks ss bs ≡ ks ++ (44 ∷ (ss ++ (44 ∷ (bs ++ 10 ∷ [])))) = simp append-assoc in
-    started (line ks ss bs)
-    ∙ ap (from newCall) a
-    ∙ from-number 0 0 0 false 0 ks (44 ∷ (ss ++ (44 ∷ (bs ++ 10 ∷ [])))) e
-    ∙ from-comma 0 0 0 k (ss ++ (44 ∷ (bs ++ 10 ∷ []))) (lit< tt)
-    ∙ from-number 1 0 (atMost 65535 k) false 0 ss (44 ∷ (bs ++ 10 ∷ [])) f
-    ∙ from-comma 1 0 (atMost 65535 k) s (bs ++ 10 ∷ []) (lit< tt)
-    ∙ from-number 2 (atMost 65535 k) (atMost 65535 s) false 0 bs (10 ∷ []) g
-    ∙ from-call 2 k s (spelled 0 bs) refl
-
--- ---- a number as it is written without leading zeros
-
-spelled-more : (n : ℕ) (xs : List ℕ) (x : ℕ) → spelled n (xs ++ x ∷ []) ≡ 10 * spelled n xs + (x - 48)
-unfolding spelled
-spelled-more n [] x = refl
-spelled-more n (y ∷ xs) x = spelled-more (10 * n + (y - 48)) xs x
-
-number-more : (d : Bool) (xs : List ℕ) (x : ℕ) → numberFrom d xs ≡ true → isDigit x ≡ true → numberFrom d (xs ++ x ∷ []) ≡ true
-unfolding numberFrom
-number-more d [] x e f = rw f
-number-more d (y ∷ xs) x e f = let h = both (isDigit y) (numberFrom true xs) e in rw (h .0) (number-more true xs x (h .1) f)
-
-digit : (d : ℕ) → d < 10 → isDigit (48 + d) ≡ true
-digit d h = rw (le-leb 48 (48 + d) (omega arith), le-leb (48 + d) 57 (omega arith))
-
--- digits that are a number's
-record Written (xs : List ℕ) (n : ℕ) : Type 0 where
-  number : isNumber xs ≡ true
-  is : spelled 0 xs ≡ n
-
-one-digit : (n : ℕ) → n < 10 → Written ((48 + n) ∷ []) n
-unfolding numberFrom spelled
-one-digit n h = record { number = rw (digit n h); is = omega arith }
-
-more-digits : (xs : List ℕ) (n : ℕ) → Written xs (n / 10) → Written (xs ++ (48 + n % 10) ∷ []) n
-more-digits xs n w =
-    let h : n % 10 < 10 = omega arith in
-    record { number = number-more false xs (48 + n % 10) (w .number) (digit (n % 10) h); is = spelled-more 0 xs (48 + n % 10) ∙ rw (w .is) (omega arith) }
-
-written : (j n : ℕ) → n < 10 ^ suc j → Written (decimalWithin (suc j) n) n
-unfolding decimalWithin
-written zero n h = rw (lt-ltb n 10 h) (one-digit n h)
-written (suc j) n h = go (ltb n 10) refl (λ l. written j (n / 10) l)
-  where
-    go : (b : Bool) → ltb n 10 ≡ b → (n / 10 < 10 ^ suc j → Written (decimalWithin (suc j) (n / 10)) (n / 10))
-        → Written (if b then (48 + n) ∷ [] else decimalWithin (suc j) (n / 10) ++ (48 + n % 10) ∷ []) n
-    go true e ih = one-digit n (ltb-true n 10 e)
-    go false e ih =
-        let p : 10 ^ suc (suc j) ≡ 10 ^ suc j * 10 = pow-suc 10 (suc j) in
-        more-digits (decimalWithin (suc j) (n / 10)) n (ih (omega arith))
-
--- a call as a program writes it, of any three numbers up to twenty digits
-pub decimal-call : (k s b : ℕ) → k < 10 ^ 20 → s < 10 ^ 20 → b < 10 ^ 20 → answers (line (decimal k) (decimal s) (decimal b)) ≡ answerLine (pitchOf k s b)
-decimal-call k s b h i j =
-    let x = written 19 k h in
-    let y = written 19 s i in
-    let z = written 19 b j in
-    call-answered (decimal k) (decimal s) (decimal b) (x .number) (y .number) (z .number) ∙ rw (x .is, y .is, z .is)
+pub lowest-call : answers (48 ∷ 44 ∷ 50 ∷ 52 ∷ 44 ∷ 48 ∷ 10 ∷ []) ≡ 48 ∷ 44 ∷ 45 ∷ 50 ∷ 44 ∷ 54 ∷ 53 ∷ 53 ∷ 51 ∷ 54 ∷ 10 ∷ []
+unfolding numberFrom spelled pitchOf position pitchAt answerLine pitchFields decimalWithin
+lowest-call = call-answered (48 ∷ []) (50 ∷ 52 ∷ []) (48 ∷ []) refl refl refl ∙ rw (entry-at 0 (lit< tt))
