@@ -10,7 +10,7 @@ use borrow.Author.Tests.{lt-ltb, le-ltb, ltb-true, ltb-false, leb-true, ne-eqb, 
 use Rattle.loops.specs.Cases.{if_then_else_, atMost}
 use Rattle.pitch.specs.Pitch.{pitchOf}
 use Rattle.pitch_lines.specs.declared.Call.{Call}
-use Rattle.pitch_lines.specs.PitchLines.{answerLine, malformedLine, newCall, malformed, isDigit, withDigit, afterDigit, isParted, afterComma, read, lineAnswer, answer, after, answersTo, afterAll, endAnswer, answers}
+use Rattle.pitch_lines.specs.PitchLines.{answerLine, malformedLine, newCall, malformed, isDigit, withDigit, afterDigit, afterComma, read, lineAnswer, answer, after, answersTo, afterAll, endAnswer, answers}
 use Rattle.pitch_lines.specs.Fields.{isField, areFields, behind, numberFrom, isNumber, spelled}
 use Rattle.pitch_lines.proofs.Refused.{key-cut, sensitivity-cut, bend-cut}
 use Rattle.pitch_lines.proofs.Parts.{after-parts, answers-parts}
@@ -44,19 +44,23 @@ nothing = refl
 
 -- ---- numbers
 
+-- a number as it is kept
+abbrev pub cap : ℕ → ℕ
+cap n = atMost 65535 n
+
 -- a line within a number
 unfoldable pub at : ℕ → Bool → ℕ → ℕ → ℕ → Call
-at r d k s n = record { reading = r; digit = d; key = k; sensitivity = s; bend = atMost 65535 n }
+at r d k s n = record { reading = r; digit = d; key = k; sensitivity = s; bend = cap n }
 
 pub both : (x y : Bool) → (x && y) ≡ true → (x ≡ true) × (y ≡ true)
 both true y e = (refl, e)
 both false y e = absurd (subst T (sym e) tt)
 
 -- a number that is kept as 65535 stays that, whatever digit comes behind it
-kept : (n d : ℕ) → withDigit (atMost 65535 n) d ≡ atMost 65535 (10 * n + d)
+kept : (n d : ℕ) → withDigit (cap n) d ≡ cap (10 * n + d)
 kept n d = go (ltb n 65535) refl
   where
-    go : (x : Bool) → ltb n 65535 ≡ x → atMost 65535 (10 * (if x then n else 65535) + d) ≡ atMost 65535 (10 * n + d)
+    go : (x : Bool) → ltb n 65535 ≡ x → cap (10 * (if x then n else 65535) + d) ≡ cap (10 * n + d)
     go true e = refl
     go false e =
         let h = ltb-false n 65535 e in
@@ -76,7 +80,7 @@ module _ (r k s : ℕ) where
       let h = both (isDigit x) (numberFrom true xs) e in
       from-digit d n x (xs ++ ys) (h .0) ∙ from-number true (10 * n + (x - 48)) xs ys (h .1)
 
-  from-comma : (n : ℕ) (ys : List ℕ) → r < 2 → from (at r true k s n) (44 ∷ ys) ≡ from (at (r + 1) false s (atMost 65535 n) 0) ys
+  from-comma : (n : ℕ) (ys : List ℕ) → r < 2 → from (at r true k s n) (44 ∷ ys) ≡ from (at (r + 1) false s (cap n) 0) ys
   unfolding at read afterComma
   from-comma n ys h = from-byte (at r true k s n) 44 ys refl ∙ rw (lt-ltb r 2 h)
 
@@ -160,12 +164,12 @@ unfoldable pub told : ℕ → ℕ → ℕ → List ℕ → List (List ℕ) → L
 told r k s f [] = if isNumber f && eqb r 2 then answerLine (pitchOf k s (spelled 0 f)) else malformedLine
 told r k s f (g ∷ gs) = if isNumber f && ltb r 2 then told (r + 1) s (spelled 0 f) g gs else malformedLine
 
-last-field : (r k s : ℕ) (f : List ℕ) → isNumber f ≡ true → from (at r false (atMost 65535 k) (atMost 65535 s) 0) (f ++ 10 ∷ []) ≡ (if eqb r 2 then answerLine (pitchOf k s (spelled 0 f)) else malformedLine)
+last-field : (r k s : ℕ) (f : List ℕ) → isNumber f ≡ true → from (at r false (cap k) (cap s) 0) (f ++ 10 ∷ []) ≡ (if eqb r 2 then answerLine (pitchOf k s (spelled 0 f)) else malformedLine)
 unfolding at lineAnswer
 last-field r k s f e =
-    from-number r (atMost 65535 k) (atMost 65535 s) false 0 f (10 ∷ []) e
-    ∙ from-end (at r true (atMost 65535 k) (atMost 65535 s) (spelled 0 f)) []
-    ∙ rw (nothing, append-nil (lineAnswer (at r true (atMost 65535 k) (atMost 65535 s) (spelled 0 f))), bend-cut 65535 (atMost 65535 k) (atMost 65535 s) (spelled 0 f) (lit< tt), sensitivity-cut 65535 (atMost 65535 k) s (spelled 0 f) (lit< tt), key-cut 65535 k s (spelled 0 f) (lit< tt))
+    from-number r (cap k) (cap s) false 0 f (10 ∷ []) e
+    ∙ from-end (at r true (cap k) (cap s) (spelled 0 f)) []
+    ∙ rw (nothing, append-nil (lineAnswer (at r true (cap k) (cap s) (spelled 0 f))), bend-cut 65535 (cap k) (cap s) (spelled 0 f) (lit< tt), sensitivity-cut 65535 (cap k) s (spelled 0 f) (lit< tt), key-cut 65535 k s (spelled 0 f) (lit< tt))
 
 third-comma : (r k s n : ℕ) (g : List ℕ) (gs : List (List ℕ)) → isField g ≡ true → areFields gs ≡ true → ltb r 2 ≡ false
     → from (at r true k s n) (44 ∷ (g ++ behind gs)) ≡ malformedLine
@@ -173,26 +177,26 @@ unfolding at read
 third-comma r k s n g gs e es z = from-byte (at r true k s n) 44 (g ++ behind gs) refl ∙ rw z (lost-field g (behind gs) e (lost-behind gs es) malformed (lit≤ tt))
 
 pub fields-told : (r k s : ℕ) (f : List ℕ) (gs : List (List ℕ)) → isField f ≡ true → areFields gs ≡ true
-    → from (at r false (atMost 65535 k) (atMost 65535 s) 0) (f ++ behind gs) ≡ told r k s f gs
+    → from (at r false (cap k) (cap s) 0) (f ++ behind gs) ≡ told r k s f gs
 unfolding told areFields
 fields-told r k s f [] e es = go (isNumber f) refl
   where
-    go : (b : Bool) → isNumber f ≡ b → from (at r false (atMost 65535 k) (atMost 65535 s) 0) (f ++ 10 ∷ []) ≡ (if b && eqb r 2 then answerLine (pitchOf k s (spelled 0 f)) else malformedLine)
+    go : (b : Bool) → isNumber f ≡ b → from (at r false (cap k) (cap s) 0) (f ++ 10 ∷ []) ≡ (if b && eqb r 2 then answerLine (pitchOf k s (spelled 0 f)) else malformedLine)
     go true z = last-field r k s f z
-    go false z = no-number r (atMost 65535 k) (atMost 65535 s) false 0 f [] e es z
+    go false z = no-number r (cap k) (cap s) false 0 f [] e es z
 fields-told r k s f (g ∷ gs) e es =
     let p = both (isField g) (areFields gs) es in
     go (isNumber f) (ltb r 2) refl refl (fields-told (r + 1) s (spelled 0 f) g gs (p .0) (p .1))
   where
     go : (b c : Bool) → isNumber f ≡ b → ltb r 2 ≡ c
-        → from (at (r + 1) false (atMost 65535 s) (atMost 65535 (spelled 0 f)) 0) (g ++ behind gs) ≡ told (r + 1) s (spelled 0 f) g gs
-        → from (at r false (atMost 65535 k) (atMost 65535 s) 0) (f ++ (44 ∷ (g ++ behind gs))) ≡ (if b && c then told (r + 1) s (spelled 0 f) g gs else malformedLine)
+        → from (at (r + 1) false (cap s) (cap (spelled 0 f)) 0) (g ++ behind gs) ≡ told (r + 1) s (spelled 0 f) g gs
+        → from (at r false (cap k) (cap s) 0) (f ++ (44 ∷ (g ++ behind gs))) ≡ (if b && c then told (r + 1) s (spelled 0 f) g gs else malformedLine)
     go true true z y ih =
-        from-number r (atMost 65535 k) (atMost 65535 s) false 0 f (44 ∷ (g ++ behind gs)) z
-        ∙ from-comma r (atMost 65535 k) (atMost 65535 s) (spelled 0 f) (g ++ behind gs) (ltb-true r 2 y)
+        from-number r (cap k) (cap s) false 0 f (44 ∷ (g ++ behind gs)) z
+        ∙ from-comma r (cap k) (cap s) (spelled 0 f) (g ++ behind gs) (ltb-true r 2 y)
         ∙ ih
     go true false z y ih =
         let p = both (isField g) (areFields gs) es in
-        from-number r (atMost 65535 k) (atMost 65535 s) false 0 f (44 ∷ (g ++ behind gs)) z
-        ∙ third-comma r (atMost 65535 k) (atMost 65535 s) (spelled 0 f) g gs (p .0) (p .1) y
-    go false c z y ih = no-number r (atMost 65535 k) (atMost 65535 s) false 0 f (g ∷ gs) e es z
+        from-number r (cap k) (cap s) false 0 f (44 ∷ (g ++ behind gs)) z
+        ∙ third-comma r (cap k) (cap s) (spelled 0 f) g gs (p .0) (p .1) y
+    go false c z y ih = no-number r (cap k) (cap s) false 0 f (g ∷ gs) e es z

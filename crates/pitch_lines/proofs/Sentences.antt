@@ -1,19 +1,21 @@
 -- What an input is answered, said of lines and their fields (specs/Fields) and not of bytes.
 -- Assumes nothing.
-use Prim.Native.Nat.{ℕ, _+_, _-_, _^_, _<_}
-use mathlib.Core.Path.{_≡_, refl, sym, ap, _∙_, subst}
+use Prim.Native.Nat.{ℕ, zero, suc, _+_, _-_, _/_, _%_, _^_, _<_}
+use mathlib.Core.Path.{_≡_, refl, sym, _∙_}
 use mathlib.Core.Bool.{Bool, true, false, not, _&&_}
 use mathlib.Core.List.{List, [], _∷_, _++_, append-nil, append-assoc}
 use native.Mathlib.Omega.{arith}
-use lib.Dec.{eqb, leb, lit<}
+use lib.Dec.{eqb, leb, ltb, lit<}
+use lib.IntN.{ℤ, pos, negsuc}
 use borrow.Author.Tests.{ne-eqb, eqb-true, leb-true}
-use Rattle.loops.specs.Cases.{if_then_else_}
+use Rattle.loops.specs.Cases.{if_then_else_, bit}
 use Rattle.text.specs.Text.{decimalWithin, decimal}
-use Rattle.pitch.specs.Pitch.{position, pitchAt, pitchOf}
+use Rattle.pitch.specs.declared.PitchAnswer.{PitchAnswer}
+use Rattle.pitch.specs.Pitch.{position, pitchAt, pitchOf, pitchNumber, pitchIn}
 use Rattle.pitch.proofs.Roots.{entry-at}
 use Rattle.pitch_lines.specs.declared.Call.{Call}
-use Rattle.pitch_lines.specs.PitchLines.{pitchFields, answerLine, malformedLine, newCall, malformed, isDigit, afterDigit, isParted, afterComma, read, lineAnswer, answer, after, answersTo, afterAll, isEmpty, endAnswer, answers}
-use Rattle.pitch_lines.specs.Fields.{isField, areFields, behind, numberFrom, isNumber, spelled, fieldsAnswer}
+use Rattle.pitch_lines.specs.PitchLines.{signed, pitchFields, numberOf, answerLine, malformedLine, newCall, malformed, isDigit, afterDigit, isParted, afterComma, read, isCall, lineAnswer, answer, after, answersTo, afterAll, isEmpty, endAnswer, answers}
+use Rattle.pitch_lines.specs.Fields.{isField, areFields, noEnd, lineEnds, behind, numberFrom, isNumber, spelled, fieldsAnswer}
 use Rattle.pitch_lines.proofs.Fields.{from, from-parts, from-byte, from-end, started, nothing, at, both, told, fields-told}
 use Rattle.pitch_lines.proofs.Written.{written}
 
@@ -54,10 +56,6 @@ pub record Cut (xs : List ℕ) : Type 0 where
   pub is : xs ++ 10 ∷ [] ≡ first ++ behind others
   pub first-field : isField first ≡ true
   pub other-fields : areFields others ≡ true
-
-pub noEnd : List ℕ → Bool
-noEnd [] = true
-noEnd (x ∷ xs) = not (eqb x 10) && noEnd xs
 
 pub cut : (xs : List ℕ) → noEnd xs ≡ true → Cut xs
 unfolding noEnd isField areFields
@@ -120,6 +118,50 @@ last-line xs b e =
     let a : from (read c b) [] ≡ lineAnswer (read c b) = rw (not-empty c b) in
     let z : from (read c b) (10 ∷ []) ≡ lineAnswer (read c b) = from-end (read c b) [] ∙ rw (nothing, append-nil (lineAnswer (read c b))) in
     rw (started (xs ++ b ∷ []), started (xs ++ b ∷ 10 ∷ []), from-parts newCall xs (b ∷ []), from-parts newCall xs (b ∷ 10 ∷ []), from-byte c b [] e, from-byte c b (10 ∷ []) e, a, z)
+
+-- as many lines come out as go in: an answer has one 0AH
+ends-parts : (xs ys : List ℕ) → lineEnds (xs ++ ys) ≡ lineEnds xs + lineEnds ys
+unfolding lineEnds
+ends-parts [] ys = omega arith
+ends-parts (x ∷ xs) ys = rw (ends-parts xs ys) (omega arith)
+
+ends-decimal : (k n : ℕ) → lineEnds (decimalWithin k n) ≡ 0
+unfolding lineEnds decimalWithin
+ends-decimal zero n = refl
+ends-decimal (suc k) n = go (ltb n 10) (ends-decimal k (n / 10))
+  where
+    no-end : (d : ℕ) → lineEnds ((48 + d) ∷ []) ≡ 0
+    no-end d = rw (ne-eqb (48 + d) 10 (λ e. omega arith))
+
+    go : (b : Bool) → lineEnds (decimalWithin k (n / 10)) ≡ 0 → lineEnds (if b then (48 + n) ∷ [] else decimalWithin k (n / 10) ++ (48 + n % 10) ∷ []) ≡ 0
+    go true h = no-end n
+    go false h = rw (ends-parts (decimalWithin k (n / 10)) ((48 + n % 10) ∷ []), h, no-end (n % 10))
+
+ends-signed : (z : ℤ) → lineEnds (signed z) ≡ 0
+unfolding lineEnds
+ends-signed (pos n) = ends-decimal 20 n
+ends-signed (negsuc n) = rw (ends-decimal 20 (suc n))
+
+ends-answer : (a : PitchAnswer) → lineEnds (answerLine a) ≡ 1
+unfolding lineEnds answerLine pitchFields
+ends-answer a =
+    let p = pitchIn a in
+    rw (ends-parts (decimal (numberOf (pitchNumber a))), ends-decimal 20 (numberOf (pitchNumber a)), ends-parts, ends-parts, ends-signed (p .octave), ends-decimal 20 (p .entry))
+
+ends-line : (c : Call) (x : Bool) → lineEnds (if x then answerLine (pitchOf (c .key) (c .sensitivity) (c .bend)) else malformedLine) ≡ 1
+unfolding lineEnds
+ends-line c true = ends-answer (pitchOf (c .key) (c .sensitivity) (c .bend))
+ends-line c false = refl
+
+ends-byte : (c : Call) (x : Bool) → lineEnds (if x then lineAnswer c else []) ≡ bit x
+unfolding lineEnds lineAnswer
+ends-byte c true = ends-line c (isCall c)
+ends-byte c false = refl
+
+pub line-for-line : (c : Call) (bs : List ℕ) → lineEnds (answersTo c bs) ≡ lineEnds bs
+unfolding lineEnds answersTo answer
+line-for-line c [] = refl
+line-for-line c (b ∷ bs) = ends-parts (answer c b) (answersTo (after c b) bs) ∙ rw (ends-byte c (eqb b 10), line-for-line (after c b) bs)
 
 -- ---- some lines
 

@@ -7,7 +7,7 @@ use mathlib.Core.List.{List, [], _∷_, _++_}
 use native.Mathlib.Nat.{pow-suc}
 use native.Mathlib.Omega.{arith}
 use lib.Dec.{ltb}
-use borrow.Author.Tests.{lt-ltb, ltb-true, ltb-false, le-leb}
+use borrow.Author.Tests.{lt-ltb, ltb-true, le-leb}
 use Rattle.loops.specs.Cases.{if_then_else_}
 use Rattle.text.specs.Text.{decimalWithin}
 use Rattle.pitch_lines.specs.PitchLines.{isDigit}

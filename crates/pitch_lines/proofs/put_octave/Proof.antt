@@ -1,21 +1,18 @@
 -- `pitch_lines::put_octave`: of a negative octave -(n + 1) the code computes n, which the byte holds, and puts n + 1.
 -- Assumes nothing.
-use Prim.Native.Nat.{ℕ, suc, _+_, _<_}
-use mathlib.Core.Path.{_≡_, refl, sym, ap, _∙_, subst}
-use mathlib.Core.Bool.{Bool, true, false}
-use mathlib.Core.List.{List, _∷_}
+use Prim.Native.Nat.{ℕ, suc, _<_}
+use mathlib.Core.Path.{_≡_, refl, ap, subst}
+use mathlib.Core.Bool.{true, false}
 use native.Mathlib.Numerals.{add-one}
 use native.Mathlib.Omega.{arith}
 use borrow.Author.Tests.{le-ltb, ltb-true}
 use lib.Dec.{T}
-use lib.IntN.{ℤ, pos, negsuc, natAbs, _-ℤ_}
-use lib.Signed.{ltZ, nonNeg}
-use mir.Syntax.{w8, w64}
-use mir.Val.{Fits, SFits, toZ, ofZ}
+use lib.IntN.{ℤ, pos, negsuc, _-ℤ_}
+use lib.Signed.{ltZ}
+use mir.Syntax.{w8}
+use mir.Val.{SFits, toZ, ofZ}
 use mir.Facts.{toZ-ofZ}
-use Rattle.text.specs.Text.{decimal}
 use Rattle.text.proofs.Joined.{joined}
-use Rattle.pitch_lines.specs.PitchLines.{signed}
 use borrow.Author.Needs.{needs}
 use Rattle.pitch_lines.proofs.put_octave.Statement.{statement}
 use Rattle.pitch_lines.proofs.put_octave.Tie as tie

@@ -1,25 +1,14 @@
 -- `pitch_lines::read`: the two tests are those of the definition, and what they say of the byte and of the number that is read keeps the code within its types.
 -- Assumes nothing.
-use Prim.Native.Nat.{ℕ, _≤_, _<_}
-use mathlib.Core.Path.{_≡_, refl, subst}
-use mathlib.Core.Bool.{Bool, true, false, _&&_}
-use native.Mathlib.Omega.{arith}
-use lib.Dec.{T, leb, ltb, eqb}
+use Prim.Native.Nat.{_<_}
+use mathlib.Core.Bool.{_&&_}
+use lib.Dec.{ltb, eqb}
 use borrow.Author.Tests.{leb-true, ltb-true}
 use borrow.Author.Needs.{needs}
 use Rattle.pitch_lines.specs.PitchLines.{read, afterDigit, afterComma}
+use Rattle.pitch_lines.proofs.Fields.{both}
 use Rattle.pitch_lines.proofs.read.Statement.{statement}
 use Rattle.pitch_lines.proofs.read.Tie as tie
-
--- a test that holds holds in both its parts
-left-holds : (x y : Bool) → (x && y) ≡ true → x ≡ true
-left-holds true y e = refl
-left-holds false y e = e
-
-right-holds : (x y : Bool) → (x && y) ≡ true → y ≡ true
-right-holds true y e = e
-right-holds false true e = refl
-right-holds false false e = e
 
 cast-at-most : tie.Need-cast-at-most
 cast-at-most c = search needs
@@ -28,7 +17,7 @@ mul-at-most : tie.Need-mul-at-most
 mul-at-most c = search needs
 
 sub-at-most : tie.Need-sub-at-most
-sub-at-most c = leb-true _ _ (left-holds _ _ (c .before .if1 .taken))
+sub-at-most c = leb-true _ _ (both _ _ (c .before .if1 .taken) .0)
 
 cast-at-most-2 : tie.Need-cast-at-most-2
 cast-at-most-2 c = search needs
@@ -49,8 +38,8 @@ returns c = rw (c .before .before .if1 .taken, c .at-most .ensures .0)
 add-t14 : tie.Need-add-t14
 add-t14 c =
     let a = c .before .before .before .before .before .args in
-    let h = right-holds (eqb (a .b) 44) (a .c .digit && ltb (a .c .reading) 2) (c .before .if2 .taken) in
-    let k : a .c .reading < 2 = ltb-true _ _ (right-holds (a .c .digit) (ltb (a .c .reading) 2) h) in
+    let p = both (eqb (a .b) 44) (a .c .digit && ltb (a .c .reading) 2) (c .before .if2 .taken) in
+    let k : a .c .reading < 2 = ltb-true _ _ (both (a .c .digit) (ltb (a .c .reading) 2) (p .1) .1) in
     search needs
 
 returns-2 : tie.Need-returns-2
