@@ -2,20 +2,22 @@
 -- Assumes nothing.
 use Prim.Native.Nat.{ℕ, zero, suc, _+_, _-_, _/_, _%_, _^_, _<_}
 use mathlib.Core.Path.{_≡_, refl, sym, _∙_}
-use mathlib.Core.Bool.{Bool, true, false, not, _&&_}
+use mathlib.Core.Bool.{Bool, true, false, _&&_}
 use mathlib.Core.List.{List, [], _∷_, _++_, append-nil, append-assoc}
 use native.Mathlib.Omega.{arith}
 use lib.Dec.{eqb, leb, ltb, lit<}
 use lib.IntN.{ℤ, pos, negsuc}
 use borrow.Author.Tests.{ne-eqb, eqb-true, leb-true}
 use Rattle.loops.specs.Cases.{if_then_else_, bit}
+use Rattle.loops.specs.Passes.{count}
+use Rattle.loops.proofs.Search.{count-append}
 use Rattle.text.specs.Text.{decimalWithin, decimal}
 use Rattle.pitch.specs.declared.PitchAnswer.{PitchAnswer}
 use Rattle.pitch.specs.Pitch.{position, pitchAt, pitchOf, pitchNumber, pitchIn}
 use Rattle.pitch.proofs.Roots.{entry-at}
 use Rattle.pitch_lines.specs.declared.Call.{Call}
 use Rattle.pitch_lines.specs.PitchLines.{signed, pitchFields, numberOf, answerLine, malformedLine, newCall, malformed, isDigit, afterDigit, isParted, afterComma, read, isCall, lineAnswer, answer, after, answersTo, afterAll, isEmpty, endAnswer, answers}
-use Rattle.pitch_lines.specs.Fields.{isField, areFields, noEnd, lineEnds, behind, numberFrom, isNumber, spelled, fieldsAnswer}
+use Rattle.pitch_lines.specs.Fields.{isField, areFields, lineEnds, behind, numberFrom, isNumber, spelled, fieldsAnswer}
 use Rattle.pitch_lines.proofs.Fields.{from, from-parts, from-byte, from-end, started, nothing, at, both, told, fields-told}
 use Rattle.pitch_lines.proofs.Written.{written}
 
@@ -57,12 +59,16 @@ pub record Cut (xs : List ℕ) : Type 0 where
   pub first-field : isField first ≡ true
   pub other-fields : areFields others ≡ true
 
-pub cut : (xs : List ℕ) → noEnd xs ≡ true → Cut xs
-unfolding noEnd isField areFields
+no-end : (b : Bool) (n : ℕ) → bit b + n ≡ 0 → (b ≡ false) × (n ≡ 0)
+no-end true n e = absurd (omega arith)
+no-end false n e = (refl, omega arith)
+
+pub cut : (xs : List ℕ) → lineEnds xs ≡ 0 → Cut xs
+unfolding count isField areFields
 cut [] e = record { first = []; others = []; is = refl; first-field = refl; other-fields = refl }
-cut (x ∷ xs) e = let p = both (not (eqb x 10)) (noEnd xs) e in go (eqb x 44) refl (p .0) (cut xs (p .1))
+cut (x ∷ xs) e = let p = no-end (eqb x 10) (lineEnds xs) e in go (eqb x 44) refl (p .0) (cut xs (p .1))
   where
-    go : (b : Bool) → eqb x 44 ≡ b → not (eqb x 10) ≡ true → Cut xs → Cut (x ∷ xs)
+    go : (b : Bool) → eqb x 44 ≡ b → eqb x 10 ≡ false → Cut xs → Cut (x ∷ xs)
     go true q n c = record { first = []; others = c .first ∷ c .others; is = rw (eqb-true x 44 q, c .is); first-field = refl; other-fields = rw (c .first-field) (c .other-fields) }
     go false q n c = record { first = x ∷ c .first; others = c .others; is = rw (c .is); first-field = rw (q, n) (c .first-field); other-fields = c .other-fields }
 
@@ -121,12 +127,10 @@ last-line xs b e =
 
 -- as many lines come out as go in: an answer has one 0AH
 ends-parts : (xs ys : List ℕ) → lineEnds (xs ++ ys) ≡ lineEnds xs + lineEnds ys
-unfolding lineEnds
-ends-parts [] ys = omega arith
-ends-parts (x ∷ xs) ys = rw (ends-parts xs ys) (omega arith)
+ends-parts xs ys = count-append (λ (x : ℕ). eqb x 10) xs ys
 
 ends-decimal : (k n : ℕ) → lineEnds (decimalWithin k n) ≡ 0
-unfolding lineEnds decimalWithin
+unfolding count decimalWithin
 ends-decimal zero n = refl
 ends-decimal (suc k) n = go (ltb n 10) (ends-decimal k (n / 10))
   where
@@ -138,28 +142,28 @@ ends-decimal (suc k) n = go (ltb n 10) (ends-decimal k (n / 10))
     go false h = rw (ends-parts (decimalWithin k (n / 10)) ((48 + n % 10) ∷ []), h, no-end (n % 10))
 
 ends-signed : (z : ℤ) → lineEnds (signed z) ≡ 0
-unfolding lineEnds
+unfolding count
 ends-signed (pos n) = ends-decimal 20 n
 ends-signed (negsuc n) = rw (ends-decimal 20 (suc n))
 
 ends-answer : (a : PitchAnswer) → lineEnds (answerLine a) ≡ 1
-unfolding lineEnds answerLine pitchFields
+unfolding count answerLine pitchFields
 ends-answer a =
     let p = pitchIn a in
     rw (ends-parts (decimal (numberOf (pitchNumber a))), ends-decimal 20 (numberOf (pitchNumber a)), ends-parts, ends-parts, ends-signed (p .octave), ends-decimal 20 (p .entry))
 
 ends-line : (c : Call) (x : Bool) → lineEnds (if x then answerLine (pitchOf (c .key) (c .sensitivity) (c .bend)) else malformedLine) ≡ 1
-unfolding lineEnds
+unfolding count
 ends-line c true = ends-answer (pitchOf (c .key) (c .sensitivity) (c .bend))
 ends-line c false = refl
 
 ends-byte : (c : Call) (x : Bool) → lineEnds (if x then lineAnswer c else []) ≡ bit x
-unfolding lineEnds lineAnswer
+unfolding count lineAnswer
 ends-byte c true = ends-line c (isCall c)
 ends-byte c false = refl
 
 pub line-for-line : (c : Call) (bs : List ℕ) → lineEnds (answersTo c bs) ≡ lineEnds bs
-unfolding lineEnds answersTo answer
+unfolding count answersTo answer
 line-for-line c [] = refl
 line-for-line c (b ∷ bs) = ends-parts (answer c b) (answersTo (after c b) bs) ∙ rw (ends-byte c (eqb b 10), line-for-line (after c b) bs)
 

@@ -3,7 +3,8 @@ use Prim.Native.Nat.{ℕ, _+_, _-_, _*_}
 use mathlib.Core.Bool.{Bool, true, false, not, _&&_}
 use mathlib.Core.List.{List, [], _∷_, _++_}
 use lib.Dec.{eqb}
-use Rattle.loops.specs.Cases.{if_then_else_, bit}
+use Rattle.loops.specs.Cases.{if_then_else_}
+use Rattle.loops.specs.Passes.{count}
 use Rattle.pitch.specs.Pitch.{pitchOf}
 use Rattle.pitch_lines.specs.PitchLines.{answerLine, malformedLine, isDigit}
 
@@ -16,14 +17,9 @@ unfoldable pub areFields : List (List ℕ) → Bool
 areFields [] = true
 areFields (g ∷ gs) = isField g && areFields gs
 
--- no 0AH, and how many there are
-unfoldable pub noEnd : List ℕ → Bool
-noEnd [] = true
-noEnd (x ∷ xs) = not (eqb x 10) && noEnd xs
-
-unfoldable pub lineEnds : List ℕ → ℕ
-lineEnds [] = 0
-lineEnds (x ∷ xs) = bit (eqb x 10) + lineEnds xs
+-- how many lines a text ends
+abbrev pub lineEnds : List ℕ → ℕ
+lineEnds xs = count (λ x. eqb x 10) xs
 
 -- the fields behind the first, a comma before each, and the line's end
 abbrev pub behind : List (List ℕ) → List ℕ
