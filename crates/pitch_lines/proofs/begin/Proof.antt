@@ -1,0 +1,11 @@
+-- `pitch_lines::begin`: no byte is read.
+-- Assumes nothing.
+use mathlib.Core.Path.{refl}
+use Rattle.pitch_lines.proofs.begin.Statement.{statement}
+use Rattle.pitch_lines.proofs.begin.Tie as tie
+
+returns : tie.Need-returns
+returns c = refl
+
+pub begin-spec : {M : Type 1} → statement M
+begin-spec = tie.close (tie.spec returns)
