@@ -117,12 +117,18 @@ fn take(k: Kept, page: &mut [u8], bytes: &[u8]) -> Turn {
     }
 }
 
-fn end(k: Kept, page: &mut [u8]) -> Turn {
+// What the end of the input adds.
+fn put_end(k: Kept, page: &mut [u8]) -> usize {
     let program = k.program;
-    let used = match program {
+    match program {
         Program::Listing => listed::end(k.lister, page),
         Program::Pitches => pitch_lines::end(k.call, page),
-    };
+    }
+}
+
+fn end(k: Kept, page: &mut [u8]) -> Turn {
+    let program = k.program;
+    let used = put_end(k, page);
     Turn {
         more: false,
         failed: write_out(program, page, used),
@@ -132,9 +138,11 @@ fn end(k: Kept, page: &mut [u8]) -> Turn {
 
 // Nothing is answered for what could not be read: the input did not end.
 fn give_up(k: Kept) -> Turn {
+    let program = k.program;
+    let failed = tell(program, b": standard input can't be read\n");
     Turn {
         more: false,
-        failed: tell(k.program, b": standard input can't be read\n"),
+        failed: failed,
         kept: k,
     }
 }

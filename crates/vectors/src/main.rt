@@ -420,14 +420,7 @@ fn run(s: Bench, page: &mut [u8]) -> Bench {
         return take(s, page, Offset::Nowhere, Event::Report(numbers[0]));
     }
     if (command == b'K') & (count == 4) {
-        let used = put_pitch_of(
-            page,
-            s.used,
-            numbers[0],
-            numbers[1],
-            numbers[2],
-            numbers[3],
-        );
+        let used = put_pitch_of(page, s.used, numbers[0], numbers[1], numbers[2], numbers[3]);
         return with_used(s, used);
     }
     with_used(s, put_told(page, s.used, d, command, count, numbers[0]))
