@@ -157,6 +157,12 @@ impl Device {
 }
 
 /// The pitch of a key, 0 to 127, with the sensitivity, 0 to 24 semitones, and the bend, 0 to 16383 with centre 8192, of its channel; number 21 where one is out of range.
+///
+/// ```
+/// let a = muntinorris::pitch(69, 2, 8192).unwrap();
+/// assert_eq!((a.octave, a.entry), (5, 110217));
+/// assert_eq!(muntinorris::pitch(69, 25, 8192).unwrap_err().0, 21);
+/// ```
 pub fn pitch(key: u8, sensitivity: u8, bend: u16) -> Result<Pitch, Refused> {
     // SAFETY: the call takes and gives plain numbers.
     let n = unsafe { muntinorris_pitch(key, sensitivity, bend) };
