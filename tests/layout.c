@@ -316,16 +316,24 @@ static void numbers(void)
     check(muntinorris_generator(device, 0).state == MUNTINORRIS_STATE_RELEASING, "the state releasing");
 }
 
-/* A pitch answer's fields, each with a value of its own. */
+/*
+ * A pitch answer's fields, each with a value of its own. Then the pitch of a note, as a driver asks for it (README.md): sensitivity 12, bent down by a third of it and half a
+ * sixteenth, of which the floor makes a whole one: position 960 - 65.
+ */
 static void pitches(void)
 {
     struct muntinorris_pitch_answer a = muntinorris_pitch(1, 24, 0);
+    const struct muntinorris_channel *c;
 
     check(a.entry == 69432 && a.octave == -2 && a.number == 0, "the lowest pitch of key 1");
     a = muntinorris_pitch(127, 24, 16383);
     check(a.entry == 97839 && a.octave == 12 && a.number == 0, "the highest pitch");
     a = muntinorris_pitch(127, 25, 16383);
     check(a.entry == 65536 && a.octave == 0 && a.number == MUNTINORRIS_BAD_PITCH, "number 21");
+    PLAY(4, 0xB2, 101, 0, 100, 0, 6, 12, 0xE2, 64, 42, 0x92, 60, 100);
+    c = &device->instrument.channels[answer.channel - 1];
+    a = muntinorris_pitch(answer.key, c->sensitivity, 128 * c->bend_msb + c->bend_lsb);
+    check(a.entry == 103657 && a.octave == 4 && a.number == 0, "the pitch of a note by its channel's record");
 }
 
 /* Of each struct its size, then of each field its place and size; the fields must fill it, so that none is left out here. */

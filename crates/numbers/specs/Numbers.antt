@@ -56,6 +56,6 @@ abbrev pub shareNumbers : ShareAnswer → ShareNumbers
 shareNumbers (ShareIs n) = record { number = 0; share = n }
 shareNumbers NotAChannel = record { number = orZero (shareNumber NotAChannel); share = 0 }
 
--- "Refused calls answer octave 0 and 65536"
+-- a pitch or, beside number 21, octave 0 and 65536
 abbrev pub pitchNumbers : PitchAnswer → PitchNumbers
 pitchNumbers a = record { entry = pitchIn a .entry; octave = pitchIn a .octave; number = orZero (pitchNumber a) }

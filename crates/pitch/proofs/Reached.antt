@@ -2,7 +2,6 @@
 -- Assumes nothing.
 use mathlib.Core.Path.{_≡_, refl}
 use native.Mathlib.Omega.{arith}
-use Prim.Native.Nat.{_<_}
 use lib.IntN.{pos, negsuc}
 use Rattle.pitch.specs.declared.PitchAnswer.the-variants.{Sounds}
 use Rattle.pitch.specs.Pitch.{position, pitchAt, pitchOf, pitchIn}

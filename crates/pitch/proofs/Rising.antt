@@ -1,19 +1,20 @@
--- "A higher position never gives a lower pitch": it gives a higher one; and the octaves of the positions that calls give.
+-- A higher position gives a higher pitch. Counted from two octaves below 0, four times the pitch is a natural number, 2 to the power of the octave times the entry. It rises within an octave since the
+-- entries do, and from one to the next since each entry is from 65536 on and below twice that. The fractions are then compared crosswise. Last, the octaves of the positions that calls give.
 -- Assumes nothing.
-use mathlib.Core.Path.{_≡_, refl, sym, ap, _∙_, subst}
+use mathlib.Core.Path.{_≡_, refl, sym, ap, subst}
 use mathlib.Core.Bool.{Bool, true, false, cond, _||_}
 use Prim.Native.Nat.{ℕ, zero, suc, _+_, _-_, _*_, _/_, _%_, _^_, _≤_, _<_}
-use native.Mathlib.Nat.{mul-assoc, mul-comm, mul-left-comm, mul-mul-mul-comm, mul-le-mul, mul-le-mul-left, mul-le-mul-right, mul-lt-mul-of-pos-left, mul-lt-mul-of-pos-right, lt-of-mul-lt-mul-right, lt-of-lt-of-le, lt-of-le-of-lt, le-of-lt, le-trans, mul-pos, pow-suc}
+use native.Mathlib.Nat.{mul-assoc, mul-comm, mul-left-comm, mul-le-mul, mul-lt-mul-of-pos-left, mul-lt-mul-of-pos-right, lt-of-mul-lt-mul-right, mul-pos, pow-suc}
 use native.Mathlib.Omega.{arith}
 use lib.Dec.{T, ltb, ltb→lt, le→leb, eqb}
 use lib.Ieee.{up, down}
 use lib.Ieee.Fits.{down-pos}
-use lib.IntN.{ℤ, pos, negsuc, subℕ}
-use lib.ListN.{getD}
-use lib.Pow.{pow-pos, pow-mono, pow-add}
+use lib.IntN.{pos, negsuc, subℕ}
+use lib.Pow.{pow-pos, pow-mono}
 use lib.Signed.{ltZ, _≤ℤ_, _<ℤ_, leZ-yes}
-use borrow.Author.Tests.{ltb-true, ltb-false, lt-ltb, le-ltb, eqb-true, eqb-false}
+use borrow.Author.Tests.{ltb-true, ltb-false, le-ltb, eqb-true, eqb-false}
 use Rattle.loops.specs.Cases.{if_then_else_}
+use Rattle.pitch.specs.declared.Pitch.{Pitch}
 use Rattle.pitch.specs.declared.PitchAnswer.the-variants.{Sounds, OutOfRange}
 use Rattle.pitch.specs.Pitch.{position, entry, pitchAt, isOut, pitchOf, pitchIn, Lower}
 use Rattle.pitch.proofs.Roots.{entry-at, rises, from-first, to-twice}
@@ -94,12 +95,15 @@ crossed e u w M e′ u′ w′ M′ W W′ p p′ h =
     let c′ : M′ * w′ * (e′ * w) ≡ M′ * e′ * (w * w′) = simp (mul-assoc, mul-comm, mul-left-comm) in
     omega arith)
 
+lower : (p q : Pitch) (M M′ : ℕ) → up (p .octave) * 4 ≡ M * down (p .octave) → up (q .octave) * 4 ≡ M′ * down (q .octave) → M * p .entry < M′ * q .entry → Lower p q
+lower p q M M′ a b h =
+    crossed (p .entry) (up (p .octave)) (down (p .octave)) M (q .entry) (up (q .octave)) (down (q .octave)) M′ (down-pos (p .octave)) (down-pos (q .octave)) a b h
+
 higher-raised : (n m : ℕ) → n < m → Lower (pitchAt (subℕ n 384)) (pitchAt (subℕ m 384))
 unfolding pitchAt
 higher-raised n m h =
     rw (octave-of n, octave-of m, rest-of n, rest-of m)
-    (crossed (entry (n % 192)) (up (subℕ (n / 192) 2)) (down (subℕ (n / 192) 2)) (2 ^ (n / 192)) (entry (m % 192)) (up (subℕ (m / 192) 2)) (down (subℕ (m / 192) 2)) (2 ^ (m / 192))
-    (down-pos (subℕ (n / 192) 2)) (down-pos (subℕ (m / 192) 2)) (quarter (n / 192)) (quarter (m / 192)) (rising n m h))
+    (lower (record { octave = subℕ (n / 192) 2; entry = entry (n % 192) }) (record { octave = subℕ (m / 192) 2; entry = entry (m % 192) }) (2 ^ (n / 192)) (2 ^ (m / 192)) (quarter (n / 192)) (quarter (m / 192)) (rising n m h))
 
 -- the order of what is counted from 384 below 0
 ordered : (n m : ℕ) → subℕ n 384 <ℤ subℕ m 384 → n < m

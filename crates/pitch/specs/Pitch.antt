@@ -1,6 +1,6 @@
 -- Document 02, ticket 7: the pitch of a note, by its key, the sensitivity and the bend of its channel.
 -- Assumes nothing.
-use Prim.Native.Nat.{ℕ, zero, suc, _+_, _-_, _*_, _/_, _%_, _^_, _≤_, _<_}
+use Prim.Native.Nat.{ℕ, zero, suc, _+_, _-_, _*_, _/_, _%_, _^_, _<_}
 use mathlib.Core.Bool.{Bool, _||_}
 use mathlib.Core.Option.{Option, some, none}
 use lib.Dec.{leb, ltb}
@@ -11,7 +11,7 @@ use Rattle.pitch.specs.declared.Pitch.{Pitch}
 use Rattle.pitch.specs.declared.PitchAnswer.{PitchAnswer}
 use Rattle.pitch.specs.declared.PitchAnswer.the-variants.{Sounds, OutOfRange}
 
--- "the floor of" a quotient, toward minus infinity (`negsuc n` is -(n + 1)), and what remains, 0 to d - 1
+-- the floor of a quotient, toward minus infinity (`negsuc n` is -(n + 1)), and what remains, 0 to d - 1
 abbrev pub floorDiv : ℤ → ℕ → ℤ
 floorDiv (pos n) d = pos (n / d)
 floorDiv (negsuc n) d = negsuc (n / d)
@@ -20,7 +20,7 @@ abbrev pub rest : ℤ → ℕ → ℕ
 rest (pos n) d = n % d
 rest (negsuc n) d = d - 1 - n % d
 
--- "the position is 16 × k plus the floor of 16 × s × (b − 8192) / 8192, in sixteenths of a semitone"
+-- the position, "in sixteenths of a semitone": 16 a key, and 16 a semitone of the sensitivity for every 8192 steps that the bend is from its centre, down to the floor
 unfoldable pub position : ℕ → ℕ → ℕ → ℤ
 position k s b = pos (16 * k) +ℤ floorDiv (pos (16 * s) *ℤ subℕ b 8192) 8192
 
@@ -29,11 +29,11 @@ unfoldable pub largest : (ℕ → Bool) → ℕ → ℕ
 largest p zero = 0
 largest p (suc m) = if p (suc m) then suc m else largest p m
 
--- "Entry i is the largest whole number whose 192nd power is at most 2 to the power 3072 + i"; no number above that power can be meant
+-- entry i of the octave, 0 to 191: the largest number whose 192nd power is at most 2 to the power 3072 + i. No power is less than its number, so that the search need not go further
 unfoldable pub entry : ℕ → ℕ
 entry i = largest (λ n. leb (n ^ 192) (2 ^ (3072 + i))) (2 ^ (3072 + i))
 
--- "The answer is the octave (floor of position / 192 ..) and the entry at the remainder"
+-- an octave is 192 sixteenths: which one, and "the entry at the remainder"
 unfoldable pub pitchAt : ℤ → Pitch
 pitchAt p = record { octave = floorDiv p 192; entry = entry (rest p 192) }
 
@@ -49,7 +49,7 @@ abbrev pub pitchNumber : PitchAnswer → Option ℕ
 pitchNumber (Sounds p) = none
 pitchNumber OutOfRange = some 21
 
--- "Refused calls answer octave 0 and 65536"
+-- what a refused call answers beside its number
 abbrev pub pitchIn : PitchAnswer → Pitch
 pitchIn (Sounds p) = p
 pitchIn OutOfRange = record { octave = pos 0; entry = 65536 }

@@ -312,9 +312,12 @@ fn put_pitch(page: &mut [u8], at: usize, a: PitchAnswer) -> usize {
     }
 }
 
-fn put_pitch_of(page: &mut [u8], at: usize, key: u8, sensitivity: u8, msb: u8, lsb: u8) -> usize {
-    let bend = (msb as u16) * 128 + (lsb as u16);
-    put_pitch(page, at, pitch::pitch_of(key, sensitivity, bend))
+fn pitch_of(key: u8, sensitivity: u8, msb: u8, lsb: u8) -> PitchAnswer {
+    pitch::pitch_of(key, sensitivity, (msb as u16) * 128 + (lsb as u16))
+}
+
+fn pitch_asked(numbers: [u8; 64]) -> PitchAnswer {
+    pitch_of(numbers[0], numbers[1], numbers[2], numbers[3])
 }
 
 // The answer to a command with one number that asks the device.
@@ -420,8 +423,7 @@ fn run(s: Bench, page: &mut [u8]) -> Bench {
         return take(s, page, Offset::Nowhere, Event::Report(numbers[0]));
     }
     if (command == b'K') & (count == 4) {
-        let used = put_pitch_of(page, s.used, numbers[0], numbers[1], numbers[2], numbers[3]);
-        return with_used(s, used);
+        return with_used(s, put_pitch(page, s.used, pitch_asked(numbers)));
     }
     with_used(s, put_told(page, s.used, d, command, count, numbers[0]))
 }

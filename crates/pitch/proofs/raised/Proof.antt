@@ -1,7 +1,6 @@
 -- `pitch::raised` meets its contract: `Floor`'s law of the position.
 -- Assumes nothing.
 use Prim.Native.Nat.{ℕ, _*_, _<_, _≤_}
-use mathlib.Core.Path.{_≡_}
 use native.Mathlib.Nat.{mul-le-mul, lt-of-le-of-lt, lt-of-lt-of-le}
 use lib.Dec.{lit≤, lit<}
 use native.Mathlib.Omega.{arith}
