@@ -76,37 +76,31 @@ fn is_over(l: Lister) -> bool {
     }
 }
 
-fn list(k: Kept, page: &mut [u8], bytes: &[u8]) -> Turn {
-    let s = listed::all(k.lister, page, bytes);
-    let lister = s.lister;
-    let call = k.call;
-    let failed = write_out(Program::Listing, page, s.used);
-    let over = is_over(lister);
+// Writes, and keeps this; after that there may be no more to read.
+fn written(k: Kept, page: &[u8], used: usize, over: bool) -> Turn {
+    let program = k.program;
+    let failed = write_out(program, page, used);
     Turn {
         more: !(failed | over),
         failed: failed,
-        kept: Kept {
-            program: Program::Listing,
-            lister: lister,
-            call: call,
-        },
+        kept: k,
     }
+}
+
+fn list(k: Kept, page: &mut [u8], bytes: &[u8]) -> Turn {
+    let s = listed::all(k.lister, page, bytes);
+    let lister = s.lister;
+    let mut next = k;
+    next.lister = lister;
+    written(next, page, s.used, is_over(lister))
 }
 
 fn pitch(k: Kept, page: &mut [u8], bytes: &[u8]) -> Turn {
     let s = pitch_lines::all(k.call, page, bytes);
     let call = s.call;
-    let lister = k.lister;
-    let failed = write_out(Program::Pitches, page, s.used);
-    Turn {
-        more: !failed,
-        failed: failed,
-        kept: Kept {
-            program: Program::Pitches,
-            lister: lister,
-            call: call,
-        },
-    }
+    let mut next = k;
+    next.call = call;
+    written(next, page, s.used, false)
 }
 
 fn take(k: Kept, page: &mut [u8], bytes: &[u8]) -> Turn {
@@ -127,13 +121,8 @@ fn put_end(k: Kept, page: &mut [u8]) -> usize {
 }
 
 fn end(k: Kept, page: &mut [u8]) -> Turn {
-    let program = k.program;
     let used = put_end(k, page);
-    Turn {
-        more: false,
-        failed: write_out(program, page, used),
-        kept: k,
-    }
+    written(k, page, used, true)
 }
 
 // Nothing is answered for what could not be read: the input did not end.
@@ -189,14 +178,21 @@ fn pitch_all(page: &mut [u8]) -> bool {
     read_all(begin(Program::Pitches), page)
 }
 
-// The exit status of the listing program: 0, or 1 if reading or writing failed.
+// The exit status: 0, or 1 if reading or writing failed.
+fn status(failed: bool) -> u32
+    ensures { λ r. ⌜ r ≤ 1 ⌝ }
+{
+    if failed { 1 } else { 0 }
+}
+
+// That of the listing program.
 #[no_mangle]
 pub extern "C" fn listing_status() -> u32
     ensures { λ r. ⌜ r ≤ 1 ⌝ }
 {
     let mut space = empty_page();
     let page: &mut [u8] = &mut space;
-    if list_all(page) { 1 } else { 0 }
+    status(list_all(page))
 }
 
 // That of the pitch filter.
@@ -206,5 +202,5 @@ pub extern "C" fn pitches_status() -> u32
 {
     let mut space = empty_page();
     let page: &mut [u8] = &mut space;
-    if pitch_all(page) { 1 } else { 0 }
+    status(pitch_all(page))
 }

@@ -1,5 +1,6 @@
--- A choice by a test, and a test as a number.
+-- A choice by a test, a test as a number, and a number that may be missing.
 use mathlib.Core.Bool.{Bool, true, false}
+use mathlib.Core.Option.{Option, some, none}
 use Prim.Native.Nat.{ℕ}
 use lib.Dec.{ltb}
 
@@ -16,3 +17,8 @@ bit false = 0
 -- n, but at most m
 abbrev pub atMost : ℕ → ℕ → ℕ
 atMost m n = if ltb n m then n else m
+
+-- a number, 0 where there is none
+abbrev pub orZero : Option ℕ → ℕ
+orZero none = 0
+orZero (some n) = n

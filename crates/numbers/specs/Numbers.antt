@@ -1,7 +1,7 @@
--- The answers of documents 01 and 02 in plain numbers, as C has them: what it is (0 none, 1 done, 2 a note, 3 a number), the paper's number, and the values that the answer
--- carries. A field without meaning is 0.
+-- The answers of documents 01 and 02 in plain numbers, as C has them: what it is (0 none, 1 done, 2 a note, 3 a number), the paper's number, 0 where it has none, and the values that
+-- the answer carries. A field without meaning is 0.
 use Prim.Native.Nat.{ℕ}
-use mathlib.Core.Option.{Option, some, none}
+use Rattle.loops.specs.Cases.{orZero}
 use Rattle.allocation.specs.declared.Was.{Was}
 use Rattle.allocation.specs.declared.Was.the-variants.{Idle, Release, Stolen}
 use Rattle.playing.specs.declared.Answer.{Answer}
@@ -28,11 +28,6 @@ abbrev pub wasNumber : Was → ℕ
 wasNumber Idle = 0
 wasNumber Release = 1
 wasNumber Stolen = 2
-
--- the paper's number of an answer, 0 where it has none
-abbrev pub orZero : Option ℕ → ℕ
-orZero none = 0
-orZero (some n) = n
 
 -- "The answer is note (channel, key, generator, what the generator was ..), done .., none, or a number"; "numbers 10 and 11 give channel and key"
 abbrev pub numbersOf : Answer → AnswerNumbers

@@ -11,7 +11,7 @@ use lib.IntN.{ℤ, pos, negsuc}
 use lib.Signed.{_≤ℤ_}
 use lib.ListN.{length, length-append}
 use borrow.Author.Tests.{ltb-false}
-use Rattle.loops.specs.Cases.{if_then_else_}
+use Rattle.loops.specs.Cases.{if_then_else_, orZero}
 use Rattle.text.specs.Text.{decimalWithin, decimal}
 use Rattle.pitch.specs.declared.PitchAnswer.{PitchAnswer}
 use Rattle.pitch.specs.declared.PitchAnswer.the-variants.{Sounds, OutOfRange}
@@ -19,7 +19,7 @@ use Rattle.pitch.specs.Pitch.{rest, position, entry, pitchAt, isOut, pitchOf, p
 use Rattle.pitch.proofs.Roots.{entry-at, to-twice}
 use Rattle.pitch.proofs.Rising.{octave-range}
 use Rattle.pitch_lines.specs.declared.Call.{Call}
-use Rattle.pitch_lines.specs.PitchLines.{signed, pitchFields, numberOf, answerLine, malformedLine, isCall, lineAnswer, answer, after, answersTo}
+use Rattle.pitch_lines.specs.PitchLines.{signed, pitchFields, answerLine, malformedLine, isCall, lineAnswer, answer, after, answersTo}
 
 -- a number below 10 to the power j has at most j digits
 decimal-length : (j k n : ℕ) → n < 10 ^ suc j → length (decimalWithin k n) ≤ suc j
@@ -57,7 +57,7 @@ entry-below k s b = go (isOut k s b)
         let h = rest-below (position k s b) in
         rw (entry-at (rest (position k s b) 192) h) (to-twice (rest (position k s b) 192) h)
 
-number-length : (a : PitchAnswer) → length (decimal (numberOf (pitchNumber a))) ≤ 2
+number-length : (a : PitchAnswer) → length (decimal (orZero (pitchNumber a))) ≤ 2
 number-length (Sounds p) = decimal-length 1 20 0 (omega arith)
 number-length OutOfRange = decimal-length 1 20 21 (omega arith)
 

@@ -8,7 +8,7 @@ use native.Mathlib.Omega.{arith}
 use lib.Dec.{eqb, leb, ltb, lit<}
 use lib.IntN.{ℤ, pos, negsuc}
 use borrow.Author.Tests.{ne-eqb, eqb-true, leb-true}
-use Rattle.loops.specs.Cases.{if_then_else_, bit}
+use Rattle.loops.specs.Cases.{if_then_else_, bit, orZero}
 use Rattle.loops.specs.Passes.{count}
 use Rattle.loops.proofs.Search.{count-append}
 use Rattle.text.specs.Text.{decimalWithin, decimal}
@@ -16,7 +16,7 @@ use Rattle.pitch.specs.declared.PitchAnswer.{PitchAnswer}
 use Rattle.pitch.specs.Pitch.{position, pitchAt, pitchOf, pitchNumber, pitchIn}
 use Rattle.pitch.proofs.Roots.{entry-at}
 use Rattle.pitch_lines.specs.declared.Call.{Call}
-use Rattle.pitch_lines.specs.PitchLines.{signed, pitchFields, numberOf, answerLine, malformedLine, newCall, malformed, isDigit, afterDigit, isParted, afterComma, read, isCall, lineAnswer, answer, after, answersTo, afterAll, isEmpty, endAnswer, answers}
+use Rattle.pitch_lines.specs.PitchLines.{signed, pitchFields, answerLine, malformedLine, newCall, malformed, isDigit, afterDigit, isParted, afterComma, read, isCall, lineAnswer, answer, after, answersTo, afterAll, isEmpty, endAnswer, answers}
 use Rattle.pitch_lines.specs.Fields.{isField, areFields, lineEnds, behind, numberFrom, isNumber, spelled, fieldsAnswer}
 use Rattle.pitch_lines.proofs.Fields.{from, from-parts, from-byte, from-end, started, nothing, at, both, told, fields-told}
 use Rattle.pitch_lines.proofs.Written.{written}
@@ -150,7 +150,7 @@ ends-answer : (a : PitchAnswer) → lineEnds (answerLine a) ≡ 1
 unfolding count answerLine pitchFields
 ends-answer a =
     let p = pitchIn a in
-    rw (ends-parts (decimal (numberOf (pitchNumber a))), ends-decimal 20 (numberOf (pitchNumber a)), ends-parts, ends-parts, ends-signed (p .octave), ends-decimal 20 (p .entry))
+    rw (ends-parts (decimal (orZero (pitchNumber a))), ends-decimal 20 (orZero (pitchNumber a)), ends-parts, ends-parts, ends-signed (p .octave), ends-decimal 20 (p .entry))
 
 ends-line : (c : Call) (x : Bool) → lineEnds (if x then answerLine (pitchOf (c .key) (c .sensitivity) (c .bend)) else malformedLine) ≡ 1
 unfolding count

@@ -4,10 +4,9 @@ use Prim.Native.Nat.{ℕ, suc, _+_, _-_, _*_}
 use mathlib.Core.Path.{_≡_}
 use mathlib.Core.Bool.{Bool, true, false, not, _&&_}
 use mathlib.Core.List.{List, [], _∷_, _++_}
-use mathlib.Core.Option.{Option, some, none}
 use lib.Dec.{leb, ltb, eqb}
 use lib.IntN.{ℤ, pos, negsuc}
-use Rattle.loops.specs.Cases.{if_then_else_, atMost}
+use Rattle.loops.specs.Cases.{if_then_else_, atMost, orZero}
 use Rattle.text.specs.Text.{Put, decimal}
 use Rattle.pitch.specs.declared.Pitch.{Pitch}
 use Rattle.pitch.specs.declared.PitchAnswer.{PitchAnswer}
@@ -29,12 +28,8 @@ unfoldable pub pitchFields : Pitch → List ℕ
 pitchFields p = (44 ∷ signed (p .octave)) ++ (44 ∷ decimal (p .entry)) ++ (10 ∷ [])
 
 -- the line of an answer: its number, 0 for a pitch, then octave and entry
-abbrev pub numberOf : Option ℕ → ℕ
-numberOf none = 0
-numberOf (some n) = n
-
 unfoldable pub answerLine : PitchAnswer → List ℕ
-answerLine a = decimal (numberOf (pitchNumber a)) ++ pitchFields (pitchIn a)
+answerLine a = decimal (orZero (pitchNumber a)) ++ pitchFields (pitchIn a)
 
 -- `malformed` and the line's end
 abbrev pub malformedLine : List ℕ
