@@ -54,6 +54,7 @@ extern "C" {
 #define MUNTINORRIS_ALREADY_IDLE 13      /* report: the generator is idle. No change */
 #define MUNTINORRIS_NO_SUCH_CHANNEL 14   /* mask or share query: the channel is not 1 to 16. No change */
 #define MUNTINORRIS_BAD_PITCH 21         /* pitch: key above 127, sensitivity above 24 or bend above 16383. Entry 65536 and octave 0 */
+#define MUNTINORRIS_BAD_LEVEL 24         /* gains: expression, volume or pan above 127. Both gains 0 */
 
 /*
  * The answer to a start, a byte or a report. number has a meaning with MUNTINORRIS_NUMBER; channel (1 to 16) and key (0 to 127) with MUNTINORRIS_NOTE and with the numbers 10
@@ -93,6 +94,16 @@ struct muntinorris_share_answer {
 struct muntinorris_pitch_answer {
     uint32_t entry;
     int8_t octave; /* -2 to 12 */
+    uint8_t number;
+};
+
+/*
+ * The gains of a channel: what the mixer multiplies its samples by, left and right. Each is a number from 0 on, never negative, and within one millionth of the exact fraction,
+ * which is at most 1. number is 0, or 24 where the call was refused, and then both gains are 0. (Three bytes of padding behind number.)
+ */
+struct muntinorris_gains_answer {
+    float left;
+    float right;
     uint8_t number;
 };
 
@@ -191,6 +202,19 @@ struct muntinorris_share_answer muntinorris_share(const struct muntinorris_devic
  * sixteenths of a semitone, is the higher; a full bend up, 16383, is a sixteenth short of the sensitivity.
  */
 struct muntinorris_pitch_answer muntinorris_pitch(uint8_t key, uint8_t sensitivity, uint16_t bend);
+
+/*
+ * The gains of a channel with this expression, volume and pan, each 0 to 127: (expression / 127) squared, times (volume / 127) squared, times the weight of the pan. Pan 0 and 1 are
+ * full left (gains 1 and 0 at full level), 64 is the centre (0.70709 each), 127 full right; the squares of the two weights come to 1, to 5 parts in 100,000. It is lent nothing and
+ * needs no start. Number 24 where one of the three is above 127.
+ */
+struct muntinorris_gains_answer muntinorris_gains(uint8_t expression, uint8_t volume, uint8_t pan);
+
+/*
+ * The same by a channel's numbers in the record: &d->instrument.channels[channel - 1], with channel 1 to 16. The struct is lent for the call, read and not written; a copy of it
+ * serves as well. Ask again after a message that changes one of the three: controllers 7, 10 and 11, controller 121, a GM System On.
+ */
+struct muntinorris_gains_answer muntinorris_channel_gains(const struct muntinorris_channel *c);
 
 #ifdef __cplusplus
 }

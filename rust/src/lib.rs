@@ -15,7 +15,7 @@ use std::mem::MaybeUninit;
 
 pub mod record;
 
-pub use record::Device;
+pub use record::{Channel, Device};
 
 /// What the generator of a note was.
 #[derive(Clone, Copy, Debug, PartialEq, Eq)]
@@ -68,7 +68,14 @@ pub struct Pitch {
     pub entry: u32,
 }
 
-/// The number of a refused query, 12 or 14, or of a refused pitch, 21.
+/// The gains of a channel: what the mixer multiplies its samples by. Each is within one millionth of the exact fraction, which is at most 1, and never negative.
+#[derive(Clone, Copy, Debug, PartialEq)]
+pub struct Gains {
+    pub left: f32,
+    pub right: f32,
+}
+
+/// The number of a refused query, 12 or 14, of a refused pitch, 21, or of refused gains, 24.
 #[derive(Clone, Copy, Debug, PartialEq, Eq)]
 pub struct Refused(pub u8);
 
@@ -80,6 +87,8 @@ extern "C" {
     fn muntinorris_mask(d: *const Device, channel: u8) -> record::MaskNumbers;
     fn muntinorris_share(d: *const Device, channel: u8) -> record::ShareNumbers;
     fn muntinorris_pitch(key: u8, sensitivity: u8, bend: u16) -> record::PitchNumbers;
+    fn muntinorris_gains(expression: u8, volume: u8, pan: u8) -> record::GainNumbers;
+    fn muntinorris_channel_gains(c: *const Channel) -> record::GainNumbers;
 }
 
 impl From<record::AnswerNumbers> for Answer {
@@ -108,6 +117,12 @@ fn answered<T>(number: u8, value: T) -> Result<T, Refused> {
         Ok(value)
     } else {
         Err(Refused(number))
+    }
+}
+
+impl From<record::GainNumbers> for Result<Gains, Refused> {
+    fn from(n: record::GainNumbers) -> Result<Gains, Refused> {
+        answered(n.number, Gains { left: n.left, right: n.right })
     }
 }
 
@@ -167,4 +182,33 @@ pub fn pitch(key: u8, sensitivity: u8, bend: u16) -> Result<Pitch, Refused> {
     // SAFETY: the call takes and gives plain numbers.
     let n = unsafe { muntinorris_pitch(key, sensitivity, bend) };
     answered(n.number, Pitch { octave: n.octave, entry: n.entry })
+}
+
+/// The gains left and right of a channel with this expression, volume and pan, each 0 to 127; number 24 where one is above. Pan 0 and 1 are full left, 64 is the centre, 127 full right.
+///
+/// ```
+/// let full_left = muntinorris::gains(127, 127, 1).unwrap();
+/// assert_eq!((full_left.left, full_left.right), (1.0, 0.0));
+/// assert_eq!(muntinorris::gains(127, 128, 1).unwrap_err().0, 24);
+/// ```
+pub fn gains(expression: u8, volume: u8, pan: u8) -> Result<Gains, Refused> {
+    // SAFETY: the call takes and gives plain numbers.
+    unsafe { muntinorris_gains(expression, volume, pan) }.into()
+}
+
+impl Channel {
+    /// The gains of a channel by its numbers in the record; number 24 where one of them is above 127, which no call makes.
+    ///
+    /// ```
+    /// let (mut device, _) = muntinorris::Device::start(64, 0);
+    /// for byte in [0xB4, 7, 64, 10, 127] {
+    ///     device.byte(byte);
+    /// }
+    /// let gains = device.instrument().channels[5 - 1].gains().unwrap();
+    /// assert!(gains.left == 0.0 && (gains.right - 64.0 * 64.0 / 16129.0).abs() <= 1e-6);
+    /// ```
+    pub fn gains(&self) -> Result<Gains, Refused> {
+        // SAFETY: the pointer is to a channel, which the call reads and does not keep.
+        unsafe { muntinorris_channel_gains(self) }.into()
+    }
 }

@@ -132,6 +132,14 @@ pub struct PitchNumbers {
     pub number: u8,
 }
 
+#[repr(C)]
+#[derive(Clone, Copy, Debug, PartialEq)]
+pub struct GainNumbers {
+    pub left: f32,
+    pub right: f32,
+    pub number: u8,
+}
+
 /// Each struct's size, and each field's place and size, in the names of the header: what the C test prints with the word `print`.
 pub fn layout() -> String {
     let mut lines = String::new();
@@ -154,5 +162,6 @@ pub fn layout() -> String {
     lay!("mask_answer", MaskNumbers { number: u8, masked: u8 });
     lay!("share_answer", ShareNumbers { number: u8, share: u8 });
     lay!("pitch_answer", PitchNumbers { entry: u32, octave: i8, number: u8 });
+    lay!("gains_answer", GainNumbers { left: f32, right: f32, number: u8 });
     lines
 }

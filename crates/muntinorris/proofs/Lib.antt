@@ -2,3 +2,4 @@
 pub mod Copied
 pub mod Numbering
 pub mod PassedOn
+pub mod CopiedChannel

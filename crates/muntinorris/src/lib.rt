@@ -6,9 +6,11 @@ ghost use Rattle.events.specs.Events.{taken};
 ghost use Rattle.events.specs.declared.Event.the-variants.{Byte, Report};
 ghost use Rattle.queries.specs.Queries.{generatorQuery, deviceMask, deviceShare};
 ghost use Rattle.pitch.specs.Pitch.{pitchOf};
-ghost use Rattle.numbers.specs.Numbers.{numbersOf, generatorNumbers, maskNumbers, shareNumbers, pitchNumbers};
+ghost use Rattle.numbers.specs.Numbers.{numbersOf, generatorNumbers, maskNumbers, shareNumbers, pitchNumbers, GainsTold, GainsToldOf};
+use channels::Channel;
 use device::Device;
 use numbers::AnswerNumbers;
+use numbers::GainNumbers;
 use numbers::GeneratorNumbers;
 use numbers::MaskNumbers;
 use numbers::PitchNumbers;
@@ -70,4 +72,20 @@ pub extern "C" fn muntinorris_pitch(key: u8, sensitivity: u8, bend: u16) -> Pitc
     ensures { λ r. ⌜ r ≡ pitchNumbers (pitchOf key sensitivity bend) ⌝ }
 {
     numbers::pitch_numbers(key, sensitivity, bend)
+}
+
+// The gains left and right of a channel with this expression, volume and pan.
+#[no_mangle]
+pub extern "C" fn muntinorris_gains(expression: u8, volume: u8, pan: u8) -> GainNumbers
+    ensures { λ r. ⌜ GainsTold expression volume pan r ⌝ }
+{
+    numbers::gain_numbers(expression, volume, pan)
+}
+
+// The gains left and right of a channel by its numbers in the record.
+#[no_mangle]
+pub extern "C" fn muntinorris_channel_gains(c: &Channel) -> GainNumbers
+    ensures { λ r. ⌜ GainsToldOf (now (c .entry)) r ⌝ }
+{
+    numbers::channel_gain_numbers(*c)
 }

@@ -1,6 +1,7 @@
 -- The answers of documents 01 and 02 in plain numbers, as C has them: what it is (0 none, 1 done, 2 a note, 3 a number), the paper's number, 0 where it has none, and the values that
 -- the answer carries. A field without meaning is 0.
 use Prim.Native.Nat.{ℕ}
+use mathlib.Core.Path.{_≡_}
 use Rattle.loops.specs.Cases.{orZero}
 use Rattle.allocation.specs.declared.Was.{Was}
 use Rattle.allocation.specs.declared.Was.the-variants.{Idle, Release, Stolen}
@@ -17,11 +18,14 @@ use Rattle.shares.specs.declared.ShareAnswer.the-variants.{ShareIs, NotAChannel
 use Rattle.shares.specs.Shares.{maskNumber, shareNumber}
 use Rattle.pitch.specs.declared.PitchAnswer.{PitchAnswer}
 use Rattle.pitch.specs.Pitch.{pitchIn, pitchNumber}
+use Rattle.channels.specs.declared.Channel.{Channel}
+use Rattle.gains.specs.Gains.{isOut, numberFor, Gives}
 use Rattle.numbers.specs.declared.AnswerNumbers.{AnswerNumbers}
 use Rattle.numbers.specs.declared.GeneratorNumbers.{GeneratorNumbers}
 use Rattle.numbers.specs.declared.MaskNumbers.{MaskNumbers}
 use Rattle.numbers.specs.declared.ShareNumbers.{ShareNumbers}
 use Rattle.numbers.specs.declared.PitchNumbers.{PitchNumbers}
+use Rattle.numbers.specs.declared.GainNumbers.{GainNumbers}
 
 -- "what the generator was: idle, release or stolen"
 abbrev pub wasNumber : Was → ℕ
@@ -54,3 +58,10 @@ shareNumbers NotAChannel = record { number = orZero (shareNumber NotAChannel); s
 -- a pitch or, beside number 21, octave 0 and 65536
 abbrev pub pitchNumbers : PitchAnswer → PitchNumbers
 pitchNumbers a = record { entry = pitchIn a .entry; octave = pitchIn a .octave; number = orZero (pitchNumber a) }
+
+-- the gains of a call or, beside number 24, 0 and 0: what `gains.Answered` says of the answer, said of the plain numbers
+abbrev pub GainsTold : ℕ → ℕ → ℕ → GainNumbers → Type 0
+GainsTold e v p r = (r .number ≡ orZero (numberFor e v p)) × Gives (isOut e v p) e v p (record { left = r .left; right = r .right })
+
+abbrev pub GainsToldOf : Channel → GainNumbers → Type 0
+GainsToldOf c r = GainsTold (c .expression) (c .volume) (c .pan) r

@@ -2,9 +2,11 @@
 ghost use mathlib.Core.Path.{_≡_};
 ghost use Rattle.queries.specs.Queries.{generatorQuery, deviceMask, deviceShare};
 ghost use Rattle.pitch.specs.Pitch.{pitchOf};
-ghost use Rattle.numbers.specs.Numbers.{wasNumber, numbersOf, generatorNumbers, maskNumbers, shareNumbers, pitchNumbers};
+ghost use Rattle.numbers.specs.Numbers.{wasNumber, numbersOf, generatorNumbers, maskNumbers, shareNumbers, pitchNumbers, GainsTold, GainsToldOf};
 use allocation::Was;
+use channels::Channel;
 use device::Device;
+use gains::GainsAnswer;
 use pitch::PitchAnswer;
 use playing::Answer;
 use queries::GeneratorAnswer;
@@ -50,6 +52,14 @@ pub struct ShareNumbers {
 pub struct PitchNumbers {
     pub entry: u32,
     pub octave: i8,
+    pub number: u8,
+}
+
+// The gains of a channel, or number 24 with 0 and 0.
+#[repr(C)]
+pub struct GainNumbers {
+    pub left: f32,
+    pub right: f32,
     pub number: u8,
 }
 
@@ -178,4 +188,27 @@ pub fn pitch_numbers(key: u8, sensitivity: u8, bend: u16) -> PitchNumbers
             number: 21,
         },
     }
+}
+
+pub fn gain_numbers(expression: u8, volume: u8, pan: u8) -> GainNumbers
+    ensures { λ r. ⌜ GainsTold expression volume pan r ⌝ }
+{
+    match gains::gains_of(expression, volume, pan) {
+        GainsAnswer::GainsAre(g) => GainNumbers {
+            left: g.left,
+            right: g.right,
+            number: 0,
+        },
+        GainsAnswer::OutOfRange => GainNumbers {
+            left: 0.0,
+            right: 0.0,
+            number: 24,
+        },
+    }
+}
+
+pub fn channel_gain_numbers(c: Channel) -> GainNumbers
+    ensures { λ r. ⌜ GainsToldOf c r ⌝ }
+{
+    gain_numbers(c.expression, c.volume, c.pan)
 }

@@ -1,0 +1,3 @@
+pub mod Frac
+pub mod Rounding
+pub mod Weights

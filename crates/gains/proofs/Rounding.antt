@@ -1,0 +1,247 @@
+-- What rounding to an `f32` adds to an error: at most 2 ^ 125 of the format's smallest values, 2 ^ -149 each, for a fraction below 2.
+-- Assumes nothing.
+use mathlib.Core.Path.{_≡_, refl, sym, ap, _∙_, subst}
+use mathlib.Core.Logic.{_⊎_, inl, inr, ⊎-elim}
+use mathlib.Core.Bool.{Bool, true, false, not, cond}
+use Prim.Native.Nat.{ℕ, zero, suc, _+_, _-_, _*_, _/_, _%_, _^_, _≤_, _<_, compare, Ordering, Ordering·lt, Ordering·eq, Ordering·gt}
+use native.Mathlib.Nat.{le-trans, le-of-eq, le-of-lt, lt-of-le-of-lt, mul-comm, mul-assoc, mul-left-comm, mul-mul-mul-comm, add-mul, mul-add, mul-pos, mul-le-mul, mul-le-mul-left, mul-le-mul-right, le-of-mul-le-mul-right, mul-lt-mul-of-pos-right, mod-lt, div-add-mod', div-lt-iff-lt-mul}
+use native.Mathlib.Omega.{arith}
+use lib.Dec.{T, isLe, isEq, eqb, leb→le, nleb→lt, eqb→eq, eqb-refl, lit≤, lit<}
+use lib.Arith.{lt-of-le-ne}
+use lib.Pow.{pow-pos, pow-mono}
+use lib.Ieee.{Float, nan, inf, fin, Format, binary32, prec, low, up, down, size, nearest, round, mul, div, ofInt}
+use lib.Ieee.Digits.{size-le}
+use lib.Ieee.Fits.{up-pos, down-pos}
+use lib.IntN.{ℤ, pos as plus}
+use lib.Ieee.Exact.{HasValue}
+use lib.Ieee.Back.{round-whole}
+use lib.Ieee.Nearest.{closest}
+use lib.Ieee.Order.{drop, kept}
+use lib.Ieee.Scale.{grid, overflow, round-val, round-same}
+use Rattle.gains.specs.Within.{Within}
+use Rattle.gains.proofs.Frac.{Close, Product, product, rounded}
+
+-- ---- what `compare` says
+abbrev Cmp : Ordering → ℕ → ℕ → Type 0
+Cmp Ordering·lt a b = a < b
+Cmp Ordering·eq a b = a ≡ b
+Cmp Ordering·gt a b = b < a
+
+cmp : (a b : ℕ) → Cmp (compare a b) a b
+cmp a b = go (compare a b) (leb→le a b) (nleb→lt a b) (eqb→eq a b) (λ (e : a ≡ b). subst (λ (x : ℕ). T (eqb a x)) e (eqb-refl a))
+  where
+    go : (o : Ordering) → (T (isLe o) → a ≤ b) → (T (not (isLe o)) → b < a) → (T (isEq o) → a ≡ b) → (a ≡ b → T (isEq o)) → Cmp o a b
+    go Ordering·lt h k e n = lt-of-le-ne (h tt) n
+    go Ordering·eq h k e n = e tt
+    go Ordering·gt h k e n = k tt
+
+-- ---- the nearest whole number is at most a half away
+abbrev Half : ℕ → ℕ → ℕ → Type 0
+Half z a b = (z * b * 2 ≤ a * 2 + b) × (a * 2 ≤ z * b * 2 + b)
+
+same : (q r a b : ℕ) → q * b + r ≡ a → r * 2 ≤ b → Half q a b
+same q r a b e h = (omega arith, omega arith)
+
+next : (q r a b : ℕ) → q * b + r ≡ a → r < b → b ≤ r * 2 → Half (q + 1) a b
+next q r a b e l h =
+    let s : (q + 1) * b ≡ q * b + b = add-mul q 1 b ∙ ap (λ (z : ℕ). q * b + z) (omega arith) in
+    (omega arith, omega arith)
+
+zero-or-one : (t : ℕ) → t < 2 → (t ≡ 0) ⊎ (t ≡ 1)
+zero-or-one zero h = inl refl
+zero-or-one (suc t) h = inr (omega arith)
+
+parity : (q : ℕ) → (q + q % 2 ≡ q) ⊎ (q + q % 2 ≡ q + 1)
+parity q = elim (zero-or-one (q % 2) (omega arith)) [ inl e ↦ inl (omega arith) | inr e ↦ inr (omega arith) ]
+
+nearest-half : (q r a b : ℕ) (o : Ordering) → q * b + r ≡ a → r < b → Cmp o (r * 2) b → Half (nearest q o) a b
+nearest-half q r a b Ordering·lt e l h = same q r a b e (omega arith)
+nearest-half q r a b Ordering·eq e l h =
+    elim (parity q) [
+      | inl z ↦ subst (λ (n : ℕ). Half n a b) (sym z) (same q r a b e (omega arith))
+      | inr z ↦ subst (λ (n : ℕ). Half n a b) (sym z) (next q r a b e l (omega arith))
+    ]
+nearest-half q r a b Ordering·gt e l h = subst (λ (n : ℕ). Half n a b) (omega arith) (next q r a b e l (omega arith))
+
+closest-half : (a b : ℕ) → 0 < b → Half (closest a b) a b
+closest-half a b pos = nearest-half (a / b) (a % b) a b (compare (a % b * 2) b) (div-add-mod' a b) (mod-lt a pos) (cmp (a % b * 2) b)
+
+-- ---- a fraction below 2, rounded: in units of 2 ^ -149
+abbrev pub U : ℕ
+U = 2 ^ 149
+
+abbrev pub H : ℕ
+H = 2 ^ 125
+
+-- `omega` refuses numbers of more than 38 digits, so what it is to prove of U and H is proved of any such numbers
+scaled : (N a c : ℕ) → 0 < N → a < c * 2 → a * N < N * 2 * c
+scaled N a c pos h = subst (λ (z : ℕ). a * N < z) (simp (mul-assoc, mul-comm)) (mul-lt-mul-of-pos-right h pos)
+
+halved : (N K a c k z : ℕ) → 2 ^ k ≤ K * 2 → Half z (a * N) (c * 2 ^ k) → Close N (z * 2 ^ k) a c K
+halved N K a c k z few half =
+    let e : z * 2 ^ k * c ≡ z * (c * 2 ^ k) = simp (mul-assoc, mul-comm, mul-left-comm) in
+    let m : c * 2 ^ k ≤ c * (K * 2) = mul-le-mul-left c few in
+    let e2 : c * (K * 2) ≡ K * c * 2 = simp (mul-assoc, mul-comm, mul-left-comm) in
+    let l = half .0 in
+    let r = half .1 in
+    record { over = omega arith; under = omega arith }
+
+four : (N K g a c : ℕ) → 0 < c → K ≤ N → a < c * 2 → Close N g a c K → g ≤ N * 4
+four N K g a c pos k h x =
+    le-of-mul-le-mul-right (
+    let o = x .over in
+    let t : a * N ≤ c * 2 * N = mul-le-mul-right N (le-of-lt h) in
+    let s : K * c ≤ N * c = mul-le-mul-right c k in
+    let e1 : c * 2 * N ≡ N * c * 2 = simp (mul-assoc, mul-comm, mul-left-comm) in
+    let e2 : N * 4 * c ≡ N * c * 4 = simp (mul-assoc, mul-comm, mul-left-comm) in
+    omega arith) pos
+
+-- a fraction near one that is at most 1 is at most 5 / 4
+small : (N g a c E : ℕ) → 0 < c → a ≤ c → E * 4 ≤ N → Close N g a c E → g * 4 ≤ N * 5
+small N g a c E pos A k x =
+    le-of-mul-le-mul-right (
+    let o = x .over in
+    let t : a * N ≤ c * N = mul-le-mul-right N A in
+    let s : E * 4 * c ≤ N * c = mul-le-mul-right c k in
+    let e1 : g * 4 * c ≡ g * c * 4 = simp (mul-assoc, mul-comm, mul-left-comm) in
+    let e2 : E * 4 * c ≡ E * c * 4 = simp (mul-assoc, mul-comm, mul-left-comm) in
+    let e3 : N * 5 * c ≡ N * c * 5 = simp (mul-assoc, mul-comm, mul-left-comm) in
+    let e4 : c * N ≡ N * c = mul-comm c N in
+    omega arith) pos
+
+twice : (N g : ℕ) → g * 4 ≤ N * 5 → g ≤ N * 2
+twice N g h = omega arith
+
+below-two : (N g h : ℕ) → 0 < N * N → g * 4 ≤ N * 5 → h * 4 ≤ N * 5 → g * h < N * N * 2
+below-two N g h pos x y =
+    let s : g * 4 * (h * 4) ≤ N * 5 * (N * 5) = mul-le-mul x y in
+    let e1 : g * 4 * (h * 4) ≡ g * h * 16 = mul-mul-mul-comm g 4 h 4 in
+    let e2 : N * 5 * (N * 5) ≡ N * N * 25 = mul-mul-mul-comm N 5 N 5 in
+    omega arith
+
+-- fewer than 127 digits are dropped
+dropped : (s : ℕ) → s ≤ 150 → s - 24 ≤ 126
+dropped s h = omega arith
+
+few : (a c : ℕ) → 0 < c → a < c * 2 → drop 24 (a * U) c ≤ 126
+few a c pos h = dropped (size (a * U / c)) (size-le (a * U / c) 150 (div-lt-iff-lt-mul pos .1 (scaled U a c (lit< tt) h)))
+
+grid-close : (a c : ℕ) → 0 < c → a < c * 2 → Close U (grid binary32 a c) a c H
+grid-close a c pos h =
+    let k = drop 24 (a * U) c in
+    halved U H a c k (closest (a * U) (c * 2 ^ k)) (pow-mono (few a c pos h)) (closest-half (a * U) (c * 2 ^ k) (mul-pos pos (pow-pos k)))
+
+-- ---- x is near a / c: its value is some number of units that is within E units of a / c
+pub record Near (x : Float) (a c E : ℕ) : Type 0 where
+  pub g : ℕ
+  pub value : HasValue x false g U
+  pub close : Close U g a c E
+
+pub round-near : (a c : ℕ) → 0 < c → a < c * 2 → Near (round binary32 false a c) a c H
+round-near a c pos h = record { g = grid binary32 a c; value = round-val binary32 a c under; close = grid-close a c pos h }
+  where
+    bound : grid binary32 a c ≤ 2 ^ 151
+    bound = four U H (grid binary32 a c) a c pos (lit≤ tt) h (grid-close a c pos h)
+
+    under : grid binary32 a c < overflow binary32
+    under = lt-of-le-of-lt bound (lit< tt)
+
+-- ---- an operation's result is its exact result, rounded, by any fractions that its operands equal
+mul-at : (x y : Float) (a c b d : ℕ) → 0 < c → 0 < d → HasValue x false a c → HasValue y false b d → mul binary32 x y ≡ round binary32 false (a * b) (c * d)
+unfolding mul
+mul-at nan y a c b d C D h k = absurd h
+mul-at (inf s) y a c b d C D h k = absurd h
+mul-at (fin s m e) nan a c b d C D h k = absurd k
+mul-at (fin s m e) (inf t) a c b d C D h k = absurd k
+mul-at (fin true m e) (fin t n f) a c b d C D h k = let z : true ≡ false = h .0 in absurd (no z)
+  where
+    no : true ≡ false → ⊥
+    no p = subst (λ (b : Bool). T b) p tt
+mul-at (fin false m e) (fin true n f) a c b d C D h k = let z : true ≡ false = k .0 in absurd (no z)
+  where
+    no : true ≡ false → ⊥
+    no p = subst (λ (b : Bool). T b) p tt
+mul-at (fin false m e) (fin false n f) a c b d C D h k =
+    round-same binary32 false (m * up e * (n * up f)) (down e * down f) (a * b) (c * d) (mul-pos (down-pos e) (down-pos f)) (mul-pos C D)
+    (mul-mul-mul-comm (m * up e) (n * up f) c d ∙ ap (λ (z : ℕ). z * (n * up f * d)) (h .1) ∙ ap (λ (z : ℕ). a * down e * z) (k .1) ∙ mul-mul-mul-comm a (down e) b (down f))
+
+pub mul-near : (x y : Float) (a c E b d F : ℕ) → 0 < c → 0 < d → a ≤ c → b ≤ d → E * 4 ≤ U → F * 4 ≤ U → Near x a c E → Near y b d F → Near (mul binary32 x y) (a * b) (c * d) (E * 2 + F * 2 + H)
+mul-near x y a c E b d F C D A B sE sF p q =
+    let g = p .g in
+    let h = q .g in
+    let sg : g * 4 ≤ U * 5 = small U g a c E C A sE (p .close) in
+    let sh : h * 4 ≤ U * 5 = small U h b d F D B sF (q .close) in
+    let r = round-near (g * h) (U * U) (lit< tt) (below-two U g h (lit< tt) sg sh) in
+    subst (λ (z : Float). Near z (a * b) (c * d) (E * 2 + F * 2 + H)) (sym (mul-at x y g U h U (lit< tt) (lit< tt) (p .value) (q .value)))
+    (record {
+      g = r .g;
+      value = r .value;
+      close = rounded U (g * h) (a * b) (c * d) (E * 2 + F * 2) (r .g) H (lit< tt) (product U a c E g b d F h A B (twice U g sg) (twice U h sh) (p .close) (q .close)) (r .close);
+    })
+
+-- a whole number, at most 2 ^ 24, over a whole number that is a value of the format
+div-at : (x : Float) (n f m : ℕ) (e : ℤ) → HasValue x false n 1 → T (not (eqb m 0)) → 0 < f → HasValue (fin false m e) false f 1 → div binary32 x (fin false m e) ≡ round binary32 false n f
+unfolding div
+div-at nan n f m e h nz F k = absurd h
+div-at (inf s) n f m e h nz F k = absurd h
+div-at (fin true l d) n f m e h nz F k = let z : true ≡ false = h .0 in absurd (no z)
+  where
+    no : true ≡ false → ⊥
+    no p = subst (λ (b : Bool). T b) p tt
+div-at (fin false l d) n f m e h nz F k = go (eqb m 0) nz
+  where
+    whole : l * up d * down e * f ≡ n * (m * up e * down d)
+    whole =
+        let x : l * up d * 1 ≡ n * down d = h .1 in
+        let y : m * up e * 1 ≡ f * down e = k .1 in
+        let x2 : l * up d ≡ n * down d = omega arith in
+        let y2 : m * up e ≡ f * down e = omega arith in
+        let c : n * down d * down e * f ≡ n * (f * down e * down d) = simp (mul-assoc, mul-comm, mul-left-comm) in
+        ap (λ (z : ℕ). z * down e * f) x2 ∙ c ∙ ap (λ (z : ℕ). n * (z * down d)) (sym y2)
+
+    above : 0 < m * up e
+    above =
+        let y : m * up e * 1 ≡ f * down e = k .1 in
+        let z : 0 < f * down e = mul-pos F (down-pos e) in
+        omega arith
+
+    go : (b : Bool) → T (not b) → cond b (cond (eqb l 0) nan (inf false)) (round binary32 false (l * up d * down e) (m * up e * down d)) ≡ round binary32 false n f
+    go true t = absurd t
+    go false t = round-same binary32 false (l * up d * down e) (m * up e * down d) n f (mul-pos above (down-pos d)) F whole
+
+pub quotient : (n f m : ℕ) (e : ℤ) → n ≤ 2 ^ 24 → n ≤ f → T (not (eqb m 0)) → 0 < f → HasValue (fin false m e) false f 1 → Near (div binary32 (ofInt binary32 (plus n)) (fin false m e)) n f H
+unfolding ofInt
+quotient n f m e fits below nz F k =
+    subst (λ (z : Float). Near z n f H) (sym (div-at (round binary32 false n 1) n f m e (round-whole binary32 false n fits) nz F k)) (round-near n f F (omega arith))
+
+-- ---- what a caller is told
+told : (N K M m u w g a c : ℕ) → 0 < N → K * M ≤ N → m * u * N ≡ g * w → Close N g a c K → (m * u * c * M ≤ (a * M + c) * w) × (a * M * w ≤ (m * u * M + w) * c)
+told N K M m u w g a c pos k v x = (
+  le-of-mul-le-mul-right (
+      let o : g * c * (M * w) ≤ a * N * (M * w) + K * c * (M * w) = le-trans (mul-le-mul-right (M * w) (x .over)) (le-of-eq (add-mul (a * N) (K * c) (M * w))) in
+      let s : K * M * (c * w) ≤ N * (c * w) = mul-le-mul-right (c * w) k in
+      let c1 : m * u * c * M * N ≡ m * u * N * (c * M) = simp (mul-assoc, mul-comm, mul-left-comm) in
+      let c2 : g * w * (c * M) ≡ g * c * (M * w) = simp (mul-assoc, mul-comm, mul-left-comm) in
+      let c3 : m * u * N * (c * M) ≡ g * w * (c * M) = ap (λ (z : ℕ). z * (c * M)) v in
+      let e2 : K * c * (M * w) ≡ K * M * (c * w) = mul-mul-mul-comm K c M w in
+      let e3 : (a * M + c) * w * N ≡ a * N * (M * w) + N * (c * w) = mul-assoc (a * M + c) w N ∙ (add-mul (a * M) c (w * N) ∙ simp (mul-assoc, mul-comm, mul-left-comm)) in
+      omega arith) pos,
+  le-of-mul-le-mul-right (
+      let o : a * N * (M * w) ≤ g * c * (M * w) + K * c * (M * w) = le-trans (mul-le-mul-right (M * w) (x .under)) (le-of-eq (add-mul (g * c) (K * c) (M * w))) in
+      let s : K * M * (c * w) ≤ N * (c * w) = mul-le-mul-right (c * w) k in
+      let e0 : a * M * w * N ≡ a * N * (M * w) = simp (mul-assoc, mul-comm, mul-left-comm) in
+      let e2 : K * c * (M * w) ≡ K * M * (c * w) = mul-mul-mul-comm K c M w in
+      let c1 : m * u * M * (c * N) ≡ m * u * N * (c * M) = simp (mul-assoc, mul-comm, mul-left-comm) in
+      let c2 : g * w * (c * M) ≡ g * c * (M * w) = simp (mul-assoc, mul-comm, mul-left-comm) in
+      let c3 : m * u * N * (c * M) ≡ g * w * (c * M) = ap (λ (z : ℕ). z * (c * M)) v in
+      let c4 : w * (c * N) ≡ N * (c * w) = simp (mul-comm, mul-left-comm) in
+      let e3 : (m * u * M + w) * c * N ≡ m * u * M * (c * N) + w * (c * N) = mul-assoc (m * u * M + w) c N ∙ add-mul (m * u * M) w (c * N) in
+      omega arith) pos,
+)
+
+pub within : (M : ℕ) (x : Float) (a c E : ℕ) → E * M ≤ U → Near x a c E → Within M x a c
+within M nan a c E k p = absurd (p .value)
+within M (inf s) a c E k p = absurd (p .value)
+within M (fin s m e) a c E k p =
+    let t = told U E M m (up e) (down e) (p .g) a c (lit< tt) k (p .value .1) (p .close) in
+    (p .value .0, t .0, t .1)

@@ -1,0 +1,3 @@
+-- The gains of a channel.
+pub mod Within
+pub mod Gains
