@@ -1,0 +1,14 @@
+-- `numbers::channel_gain_numbers` meets its contract: it is `gain_numbers` with three numbers of the channel.
+-- Assumes nothing.
+use borrow.Author.Needs.{needs}
+use Rattle.numbers.proofs.channel_gain_numbers.Statement.{statement}
+use Rattle.numbers.proofs.channel_gain_numbers.Tie as tie
+
+gain-numbers-requires : tie.Need-gain-numbers-requires
+gain-numbers-requires c κs = search needs
+
+returns : tie.Need-returns
+returns c = c .gain-numbers .ensures
+
+pub channel-gain-numbers-spec : {M : Type 1} → statement M
+channel-gain-numbers-spec = tie.close (tie.spec gain-numbers-requires returns)
