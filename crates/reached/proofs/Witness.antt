@@ -1,0 +1,84 @@
+-- The claim bites. First its words, for any channel, record and start: a claim emptied behind its name would not give these facts. Then what a driver draws from the claim
+-- alone, for any list; and a list, computed from the definitions, that reaches every bound at once, on channel 16 and behind a refused start.
+-- Assumes nothing.
+use mathlib.Core.Path.{_≡_, refl}
+use mathlib.Core.List.{List, [], _∷_}
+use Prim.Native.Nat.{ℕ, _+_, _*_, _≤_, _<_}
+use native.Mathlib.Omega.{arith}
+use lib.ListN.{getD}
+use Rattle.splitter.specs.Split.{begun, stored, oneDataByte, completed, dataByte, opened, ended, statusByte, split}
+use Rattle.message.specs.Message.{decode}
+use Rattle.channels.specs.declared.Channel.{Channel}
+use Rattle.channels.specs.Channel as of-channel
+use Rattle.generators.specs.Generators.{silent}
+use Rattle.instrument.specs.Instrument.{fresh, channelOf, withChannel}
+use Rattle.instrument.proofs.Elements.{any-default}
+use Rattle.other_messages.specs.OtherMessages.{notesAfter, playControl}
+use Rattle.playing.specs.Playing.{played}
+use Rattle.reports.specs.Reports.{reported}
+use Rattle.device.specs.declared.Device.{Device}
+use Rattle.device.specs.Device.{started, heard, byteTaken}
+use Rattle.events.specs.declared.Event.{Event}
+use Rattle.events.specs.declared.Event.the-variants.{Byte, Report}
+use Rattle.events.specs.Events.{reportTaken, taken}
+use Rattle.reached.specs.Reached.{InRange, AllInRange, after, AlwaysInRange}
+use Rattle.reached.proofs.Kept.{always-in-range}
+
+-- ---- the words
+
+-- what number 24 of ticket 13 asks: none of the three above 127
+pub levels-below-128 : (c : Channel) → InRange c → (c .volume < 128) × ((c .pan < 128) × (c .expression < 128))
+levels-below-128 c r = omega arith
+
+-- what number 21 of ticket 7 asks of a channel: the sensitivity not above 24, the bend not above 16383
+pub bend-below-16384 : (c : Channel) → InRange c → (c .sensitivity < 25) × (128 * c .«bend_msb» + c .«bend_lsb» < 16384)
+bend-below-16384 c r = omega arith
+
+pub last-channel-too : (d : Device) → AllInRange d → InRange (channelOf (d .instrument) 16)
+last-channel-too d a = a .each 16 (omega arith) (omega arith)
+
+-- no channel is missing from the record: whatever is read for a missing one, it is not read for these
+pub no-channel-missing : (d : Device) → AllInRange d → (i : ℕ) → i < 16 → (x y : Channel) → getD (d .instrument .channels) i x ≡ getD (d .instrument .channels) i y
+no-channel-missing d a i h x y = any-default x y (d .instrument .channels) i (let s = a .sixteen in omega arith)
+
+-- any P and any own ID, refused or not
+pub any-start : AlwaysInRange → (p id : ℕ) (l : List Event) → AllInRange (after (started p id .device) l)
+any-start a = a
+
+-- ---- every list, from the claim alone
+
+module _ (p id : ℕ) (l : List Event) (c : ℕ) (lo : 1 ≤ c) (hi : c ≤ 16) where
+  abbrev now : Channel
+  now = channelOf (after (started p id .device) l .instrument) c
+
+  pub levels-never-refused : (now .volume < 128) × ((now .pan < 128) × (now .expression < 128))
+  levels-never-refused = levels-below-128 now (always-in-range p id l .each c lo hi)
+
+  pub pitch-never-refused : (now .sensitivity < 25) × (128 * now .«bend_msb» + now .«bend_lsb» < 16384)
+  pitch-never-refused = bend-below-16384 now (always-in-range p id l .each c lo hi)
+
+-- ---- every bound is reached
+
+-- controllers by running status, with RPN 0/0 for the data entry; program; bend. A report, a real-time byte and a number that is no byte stand between
+abbrev pub loudest : List Event
+loudest =
+    Byte 0xBF ∷ Byte 1 ∷ Byte 127 ∷ Byte 7 ∷ Byte 127 ∷ Byte 10 ∷ Byte 127 ∷ Byte 11 ∷ Byte 127 ∷ Byte 64 ∷ Byte 127
+    ∷ Byte 101 ∷ Byte 0 ∷ Byte 100 ∷ Byte 0 ∷ Byte 6 ∷ Byte 127 ∷ Byte 101 ∷ Byte 127 ∷ Byte 100 ∷ Byte 0xF8 ∷ Report 0 ∷ Byte 300 ∷ Byte 127
+    ∷ Byte 0xCF ∷ Byte 127 ∷ Byte 0xEF ∷ Byte 127 ∷ Byte 127 ∷ []
+
+pub bounds-reached : channelOf (after (started 65 0 .device) loudest .instrument) 16
+    ≡ record {
+      program = 127;
+      modulation = 127;
+      volume = 127;
+      pan = 127;
+      expression = 127;
+      hold = 127;
+      «rpn_msb» = 127;
+      «rpn_lsb» = 127;
+      «bend_msb» = 127;
+      «bend_lsb» = 127;
+      sensitivity = 24;
+    }
+unfolding begun stored oneDataByte completed dataByte opened ended statusByte split decode of-channel.fresh of-channel.dataEntry of-channel.stored of-channel.controlled of-channel.channelAt of-channel.replaced silent fresh channelOf withChannel notesAfter playControl played reported started heard byteTaken reportTaken taken after
+bounds-reached = refl

@@ -1,0 +1,2 @@
+-- What a device can reach.
+pub mod Reached
