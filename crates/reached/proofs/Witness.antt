@@ -3,9 +3,11 @@
 -- Assumes nothing.
 use mathlib.Core.Path.{_≡_, refl}
 use mathlib.Core.List.{List, [], _∷_}
+use mathlib.Core.Option.{none}
 use Prim.Native.Nat.{ℕ, _+_, _*_, _≤_, _<_}
 use native.Mathlib.Omega.{arith}
 use lib.ListN.{getD}
+use borrow.Author.Tests.{le-ltb}
 use Rattle.splitter.specs.Split.{begun, stored, oneDataByte, completed, dataByte, opened, ended, statusByte, split}
 use Rattle.message.specs.Message.{decode}
 use Rattle.channels.specs.declared.Channel.{Channel}
@@ -21,14 +23,15 @@ use Rattle.device.specs.Device.{started, heard, byteTaken}
 use Rattle.events.specs.declared.Event.{Event}
 use Rattle.events.specs.declared.Event.the-variants.{Byte, Report}
 use Rattle.events.specs.Events.{reportTaken, taken}
+use Rattle.gains.specs.Gains.{numberFor}
 use Rattle.reached.specs.Reached.{InRange, AllInRange, after, AlwaysInRange}
 use Rattle.reached.proofs.Kept.{always-in-range}
 
 -- ---- the words
 
--- what number 24 of ticket 13 asks: none of the three above 127
-pub levels-below-128 : (c : Channel) → InRange c → (c .volume < 128) × ((c .pan < 128) × (c .expression < 128))
-levels-below-128 c r = omega arith
+-- no number 24 of ticket 13, for expression, volume and pan
+pub levels-in-range : (c : Channel) → InRange c → numberFor (c .expression) (c .volume) (c .pan) ≡ none
+levels-in-range c r = simp (le-ltb _ _ (r .expression), le-ltb _ _ (r .volume), le-ltb _ _ (r .pan))
 
 -- what number 21 of ticket 7 asks of a channel: the sensitivity not above 24, the bend not above 16383
 pub bend-below-16384 : (c : Channel) → InRange c → (c .sensitivity < 25) × (128 * c .«bend_msb» + c .«bend_lsb» < 16384)
@@ -51,8 +54,8 @@ module _ (p id : ℕ) (l : List Event) (c : ℕ) (lo : 1 ≤ c) (hi : c ≤ 16) 
   abbrev now : Channel
   now = channelOf (after (started p id .device) l .instrument) c
 
-  pub levels-never-refused : (now .volume < 128) × ((now .pan < 128) × (now .expression < 128))
-  levels-never-refused = levels-below-128 now (always-in-range p id l .each c lo hi)
+  pub levels-never-refused : numberFor (now .expression) (now .volume) (now .pan) ≡ none
+  levels-never-refused = levels-in-range now (always-in-range p id l .each c lo hi)
 
   pub pitch-never-refused : (now .sensitivity < 25) × (128 * now .«bend_msb» + now .«bend_lsb» < 16384)
   pitch-never-refused = bend-below-16384 now (always-in-range p id l .each c lo hi)
