@@ -12,14 +12,21 @@
 //     W           who plays: a line as that of G for each generator that is not idle
 //     C cc        the eleven numbers of channel cc, in the order of document 01, "The device record"
 //     K kk ss mm ll  the octave and entry of key kk with sensitivity ss and bend 128 × mm + ll
+//     L ee vv pp  the gains left and right with expression ee, volume vv and pan pp, to the nearest hundred-thousandth
+//     L cc        the same, by the numbers of channel cc
 //
 // A refused query answers its number only. Any other line is answered `malformed` and has no effect; an empty line has no answer. Before the first P the device
 // is one with P 1 and own ID 0. Assumes the contracts of the C library's read and write, and nothing else.
+ghost use mathlib.Core.Bool.{not};
+ghost use lib.Dec.{T};
+ghost use lib.Ieee.{isNan};
+ghost use Rattle.gains.specs.Gains.{gainsIn};
 use channels::Channel;
 use console::Input;
 use console::Output;
 use device::Device;
 use events::Event;
+use gains::GainsAnswer;
 use lines::Offset;
 use lines::put_field;
 use pitch::PitchAnswer;
@@ -320,6 +327,72 @@ fn pitch_asked(numbers: [u8; 64]) -> PitchAnswer {
     pitch_of(numbers[0], numbers[1], numbers[2], numbers[3])
 }
 
+// A gain in hundred-thousandths, to the nearest, from the bits of its float: 24 binary digits, of which the exponent says how many stand behind the point.
+fn hundred_thousandths(bits: u32) -> u64 {
+    let exponent = bits / 0x800000;
+    if exponent < 100 {
+        return 0;
+    }
+    // no gain is as large as this
+    if 150 < exponent {
+        return 999999;
+    }
+    let digits = (bits % 0x800000 + 0x800000) as u64;
+    let halves = (digits * 200000) >> (150 - exponent);
+    halves - halves / 2
+}
+
+// The last digit of a number.
+fn put_digit(page: &mut [u8], at: usize, n: u64) -> usize {
+    text::put_byte(page, at, b'0' + (n % 10) as u8)
+}
+
+fn put_gain(page: &mut [u8], at: usize, bits: u32) -> usize {
+    let n = hundred_thousandths(bits);
+    let a = put(page, at, b",");
+    let b = put_digit(page, a, n / 100000);
+    let c = put(page, b, b".");
+    let d = put_digit(page, c, n / 10000);
+    let e = put_digit(page, d, n / 1000);
+    let f = put_digit(page, e, n / 100);
+    let g = put_digit(page, f, n / 10);
+    put_digit(page, g, n)
+}
+
+fn put_gains(page: &mut [u8], at: usize, a: GainsAnswer) -> usize
+    requires { ⌜ T (not (isNan (gainsIn a .left))) × T (not (isNan (gainsIn a .right))) ⌝ }
+{
+    match a {
+        GainsAnswer::GainsAre(g) => {
+            let b = put(page, at, b"gains");
+            let c = put_gain(page, b, f32::to_bits(g.left));
+            let d = put_gain(page, c, f32::to_bits(g.right));
+            put(page, d, b"\n")
+        }
+        GainsAnswer::OutOfRange => put_refused(page, at, 24),
+    }
+}
+
+fn put_levels(page: &mut [u8], at: usize, expression: u8, volume: u8, pan: u8) -> usize {
+    put_gains(page, at, gains::gains_of(expression, volume, pan))
+}
+
+fn put_channel_levels(page: &mut [u8], at: usize, c: Channel) -> usize {
+    put_gains(page, at, gains::channel_gains(c))
+}
+
+fn put_levels_asked(page: &mut [u8], at: usize, numbers: [u8; 64]) -> usize {
+    put_levels(page, at, numbers[0], numbers[1], numbers[2])
+}
+
+// The answer to a command with one number that asks for a channel's record.
+fn put_channel(page: &mut [u8], at: usize, command: u8, c: Channel) -> usize {
+    if command == b'L' {
+        return put_channel_levels(page, at, c);
+    }
+    put_numbers(page, at, c)
+}
+
 // The answer to a command with one number that asks the device.
 fn put_asked(page: &mut [u8], at: usize, d: Device, command: u8, n: u8) -> usize {
     if command == b'G' {
@@ -331,9 +404,9 @@ fn put_asked(page: &mut [u8], at: usize, d: Device, command: u8, n: u8) -> usize
     if command == b'S' {
         return put_share(page, at, queries::share_query(d, n));
     }
-    if (command == b'C') & (1 <= n) & (n <= 16) {
+    if ((command == b'C') | (command == b'L')) & (1 <= n) & (n <= 16) {
         let i = d.instrument;
-        return put_numbers(page, at, i.channel_of(n));
+        return put_channel(page, at, command, i.channel_of(n));
     }
     put_malformed(page, at)
 }
@@ -424,6 +497,9 @@ fn run(s: Bench, page: &mut [u8]) -> Bench {
     }
     if (command == b'K') & (count == 4) {
         return with_used(s, put_pitch(page, s.used, pitch_asked(numbers)));
+    }
+    if (command == b'L') & (count == 3) {
+        return with_used(s, put_levels_asked(page, s.used, numbers));
     }
     with_used(s, put_told(page, s.used, d, command, count, numbers[0]))
 }
