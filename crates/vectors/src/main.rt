@@ -359,16 +359,18 @@ fn put_gain(page: &mut [u8], at: usize, bits: u32) -> usize {
     put_digit(page, g, n)
 }
 
+fn put_both(page: &mut [u8], at: usize, left: u32, right: u32) -> usize {
+    let a = put(page, at, b"gains");
+    let b = put_gain(page, a, left);
+    let c = put_gain(page, b, right);
+    put(page, c, b"\n")
+}
+
 fn put_gains(page: &mut [u8], at: usize, a: GainsAnswer) -> usize
     requires { ⌜ T (not (isNan (gainsIn a .left))) × T (not (isNan (gainsIn a .right))) ⌝ }
 {
     match a {
-        GainsAnswer::GainsAre(g) => {
-            let b = put(page, at, b"gains");
-            let c = put_gain(page, b, f32::to_bits(g.left));
-            let d = put_gain(page, c, f32::to_bits(g.right));
-            put(page, d, b"\n")
-        }
+        GainsAnswer::GainsAre(g) => put_both(page, at, f32::to_bits(g.left), f32::to_bits(g.right)),
         GainsAnswer::OutOfRange => put_refused(page, at, 24),
     }
 }

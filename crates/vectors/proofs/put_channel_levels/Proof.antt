@@ -1,0 +1,22 @@
+-- `vectors::put_channel_levels`: what `channel_gains` answers are numbers, whose bits can be read (`Finite` of the crate gains).
+-- Assumes nothing.
+use borrow.Author.Needs.{needs}
+use Rattle.gains.proofs.Finite.{numbers}
+use Rattle.vectors.proofs.put_channel_levels.Statement.{statement}
+use Rattle.vectors.proofs.put_channel_levels.Tie as tie
+
+channel-gains-requires : tie.Need-channel-gains-requires
+channel-gains-requires c κs = search needs
+
+put-gains-requires : tie.Need-put-gains-requires
+put-gains-requires c κs = let x = c .before .before .before .args .c in numbers (x .expression) (x .volume) (x .pan) (c .channel-gains .result) (c .channel-gains .ensures)
+
+same-length : tie.Need-same-length
+same-length c = search needs
+
+returns : tie.Need-returns
+returns c = search needs
+
+pub put-channel-levels-spec : {M : Type 1} → statement M
+put-channel-levels-spec =
+    tie.close (tie.spec channel-gains-requires put-gains-requires same-length returns)

@@ -1,0 +1,21 @@
+-- `vectors::put_levels`: what `gains_of` answers are numbers, whose bits can be read (`Finite` of the crate gains).
+-- Assumes nothing.
+use borrow.Author.Needs.{needs}
+use Rattle.gains.proofs.Finite.{numbers}
+use Rattle.vectors.proofs.put_levels.Statement.{statement}
+use Rattle.vectors.proofs.put_levels.Tie as tie
+
+gains-of-requires : tie.Need-gains-of-requires
+gains-of-requires c κs = search needs
+
+put-gains-requires : tie.Need-put-gains-requires
+put-gains-requires c κs = let a = c .before .before .before .args in numbers (a .expression) (a .volume) (a .pan) (c .gains-of .result) (c .gains-of .ensures)
+
+same-length : tie.Need-same-length
+same-length c = search needs
+
+returns : tie.Need-returns
+returns c = search needs
+
+pub put-levels-spec : {M : Type 1} → statement M
+put-levels-spec = tie.close (tie.spec gains-of-requires put-gains-requires same-length returns)
