@@ -1,0 +1,84 @@
+-- The words of the contract bite. First a float that is near a fraction, and those that are not; then what a call promises where a hand can check it; then what the laws of a table say of any table.
+-- A definition loosened behind its name would not give these facts.
+-- Assumes nothing.
+use mathlib.Core.Path.{_≡_, refl, sym, subst}
+use mathlib.Core.Bool.{true, false}
+use mathlib.Core.Option.{some, none}
+use Prim.Native.Nat.{ℕ, _+_, _*_, _≤_, _<_}
+use native.Mathlib.Omega.{arith}
+use lib.Dec.{lit≤}
+use lib.IntN.{ℤ, pos, negsuc}
+use lib.Ieee.{nan, inf, fin, ofBits}
+use Rattle.gains.specs.declared.GainsAnswer.{GainsAnswer}
+use Rattle.gains.specs.Within.{Within}
+use Rattle.gains.specs.Gains.{weight, Weighs, Near, numberFor, gainsNumber, gainsIn, Answered}
+
+-- ---- one half, beside fractions that are exactly a millionth and a little more away
+
+pub a-millionth-above : Within 1000000 (fin false 1 (negsuc 0)) 499999 1000000
+a-millionth-above = (refl, lit≤ tt, lit≤ tt)
+
+pub a-millionth-below : Within 1000000 (fin false 1 (negsuc 0)) 500001 1000000
+a-millionth-below = (refl, lit≤ tt, lit≤ tt)
+
+pub too-high : Within 1000000 (fin false 1 (negsuc 0)) 4999989 10000000 → ⊥
+too-high w = let h : 10000000000000 ≤ 9999998000000 = w .1 in omega arith
+
+pub too-low : Within 1000000 (fin false 1 (negsuc 0)) 5000011 10000000 → ⊥
+too-low w = let h : 10000022000000 ≤ 10000020000000 = w .2 in omega arith
+
+pub not-below-0 : (M m a c : ℕ) (e : ℤ) → Within M (fin true m e) a c → true ≡ false
+not-below-0 M m a c e w = w .0
+
+pub no-nan : (M a c : ℕ) → Within M nan a c → ⊥
+no-nan M a c w = w
+
+pub no-infinity : (M a c : ℕ) → Within M (inf false) a c → ⊥
+no-infinity M a c w = w
+
+-- ---- calls: 260144641 is 127 to the power 4
+
+-- full level at pan 64, the centre: weight 63 on both sides
+pub centre : (a : GainsAnswer) → Answered 127 127 64 a
+    → Within 1000000 (gainsIn a .left) (260144641 * 23170) (260144641 * 32768) × Within 1000000 (gainsIn a .right) (260144641 * 23170) (260144641 * 32768)
+unfolding weight
+centre a h = h .1
+
+-- half the expression and a third of the volume, full right: 64 squared times 42 squared, and nothing on the left
+pub quiet-and-right : (a : GainsAnswer) → Answered 64 42 127 a
+    → Within 1000000 (gainsIn a .left) 0 (260144641 * 32768) × Within 1000000 (gainsIn a .right) (4096 * 1764 * 32768) (260144641 * 32768)
+unfolding weight
+quiet-and-right a h = h .1
+
+-- 0 has no place of its own, and at full left nothing is heard on the right
+pub pan-0-as-1 : (a : GainsAnswer) → Answered 127 127 0 a → Answered 127 127 1 a
+pan-0-as-1 a h = h
+
+pub accepted : (a : GainsAnswer) → Answered 127 127 127 a → gainsNumber a ≡ none
+accepted a h = h .0
+
+pub refused : (a : GainsAnswer) → Answered 0 0 128 a → gainsNumber a ≡ some 24
+refused a h = h .0
+
+pub refused-silent : (a : GainsAnswer) → Answered 0 0 128 a → gainsIn a ≡ record { left = fin false 0 (pos 0); right = fin false 0 (pos 0) }
+unfolding ofBits
+refused-silent a h = h .1
+
+-- ---- the laws of a table, of any table
+
+module _ (W : ℕ → ℕ) (w : Weighs W) where
+  pub first-and-last : (W 0 ≡ 0) × (W 126 ≡ 32768)
+  first-and-last = (w .first, w .last)
+
+  pub first-step : W 0 < W 1
+  first-step = w .rises 0 (omega arith)
+
+  pub last-step : W 125 < W 126
+  last-step = w .rises 125 (omega arith)
+
+  -- the middle weight is W(63), and its double square is as near to 32768 squared as the paper says
+  pub middle-not-louder : W 63 * W 63 + W 63 * W 63 ≤ 1073788166
+  middle-not-louder = w .not-over 63 (omega arith)
+
+  pub middle-not-quieter : 1073741824 ≤ W 63 * W 63 + W 63 * W 63 + 46342
+  middle-not-quieter = w .not-under 63 (omega arith)
