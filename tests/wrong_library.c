@@ -1,6 +1,7 @@
 /*
  * A library that is wrong in one place: the proved one, whose functions are renamed to right_.., with one byte of what it gives or leaves changed. tests/faults links
- * it where the proved one belongs and sees the differential test fail. The environment says where: WRONG is one of the words below, AT the byte of it.
+ * it where the proved one belongs and sees the differential test fail. The environment says where: WRONG is one of the words below, AT the byte of it, BY what is added to the
+ * byte, 1 if it is not said.
  */
 #include <stdlib.h>
 #include <string.h>
@@ -13,14 +14,19 @@ struct muntinorris_generator_answer right_generator(const struct muntinorris_dev
 struct muntinorris_mask_answer right_mask(const struct muntinorris_device *d, uint8_t channel);
 struct muntinorris_share_answer right_share(const struct muntinorris_device *d, uint8_t channel);
 struct muntinorris_pitch_answer right_pitch(uint8_t key, uint8_t sensitivity, uint16_t bend);
+struct muntinorris_gains_answer right_gains(uint8_t expression, uint8_t volume, uint8_t pan);
+struct muntinorris_gains_answer right_channel_gains(const struct muntinorris_channel *channel);
 
 static unsigned long calls;
 
+/* The environment is asked once: there are millions of calls. */
 static int is_meant(const char *word)
 {
-    const char *wrong = getenv("WRONG");
+    static const char *wrong;
 
-    return wrong && strcmp(wrong, word) == 0;
+    if (!wrong)
+        wrong = getenv("WRONG") ? getenv("WRONG") : "";
+    return strcmp(wrong, word) == 0;
 }
 
 /* From the thousandth byte on, so that there is something in the record. */
@@ -31,9 +37,9 @@ static int is_wrong(const char *word)
 
 static void change(void *thing)
 {
-    const char *at = getenv("AT");
+    const char *at = getenv("AT"), *by = getenv("BY");
 
-    ((unsigned char *)thing)[at ? atoi(at) : 0] += 1;
+    ((unsigned char *)thing)[at ? atoi(at) : 0] += by ? atoi(by) : 1;
 }
 
 struct muntinorris_answer muntinorris_start(struct muntinorris_device *d, uint8_t polyphony, uint8_t id)
@@ -107,5 +113,28 @@ struct muntinorris_pitch_answer muntinorris_pitch(uint8_t key, uint8_t sensitivi
 
     if (is_meant(a.number == 0 ? "pitch" : "refused pitch"))
         change(&a);
+    return a;
+}
+
+/* As a pitch. */
+struct muntinorris_gains_answer muntinorris_gains(uint8_t expression, uint8_t volume, uint8_t pan)
+{
+    struct muntinorris_gains_answer a = right_gains(expression, volume, pan);
+
+    if (is_meant(a.number == 0 ? "gains" : "refused gains"))
+        change(&a);
+    return a;
+}
+
+/* A lone channel is one of no record: no message brings a program above 127. */
+struct muntinorris_gains_answer muntinorris_channel_gains(const struct muntinorris_channel *channel)
+{
+    struct muntinorris_gains_answer a = right_channel_gains(channel);
+    int lone = channel->program > 127;
+
+    if (is_meant(a.number == 0 ? "channel gains" : "refused channel gains") || (lone && a.number == 0 && is_meant("lone channel gains")))
+        change(&a);
+    if (is_meant("written channel") || (lone && is_meant("written lone channel")))
+        change((void *)channel);
     return a;
 }

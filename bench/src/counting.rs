@@ -20,6 +20,8 @@ enum Target {
     SingleByte,
     /// A pitch at most 100.
     Pitch,
+    /// Gains at most 120.
+    Gains,
     /// Nothing, as for a refused pitch.
     None,
     /// The mean over a stream.
@@ -50,6 +52,11 @@ pub fn run<S: Subject>() {
     for (name, call, target) in PITCHES {
         count_pitch::<S>(name, call, target);
     }
+    for (name, call, target) in GAINS {
+        count_gains::<S>(call);
+        print_line(name, 1, target);
+    }
+    count_pans::<S>();
     for stream in streams::all() {
         count_stream::<S>(stream);
     }
@@ -80,6 +87,7 @@ fn print_line(name: &str, calls: usize, target: Target) {
         Target::NothingCompleted => ("sum", "100"),
         Target::SingleByte => ("sum", "15000"),
         Target::Pitch => ("sum", "100"),
+        Target::Gains => ("sum", "120"),
         Target::None => ("sum", "-"),
         Target::Mean => ("mean", "-"),
     };
@@ -284,6 +292,40 @@ fn count_pitch<S: Subject>(name: &str, call: (u8, u8, u16), target: Target) {
     black_box(S::pitch(key, sensitivity, bend));
     bench_mark();
     print_line(name, 1, target);
+}
+
+/// Expression, volume and pan of the gains that are counted.
+const GAINS: [(&str, (u8, u8, u8), Target); 4] = [
+    ("gains, centre", (127, 100, 64), Target::Gains),
+    ("gains, hard right", (127, 127, 127), Target::Gains),
+    ("gains, silent", (0, 100, 64), Target::Gains),
+    ("gains, number 24", (127, 100, 128), Target::None),
+];
+
+fn count_gains<S: Subject>(call: (u8, u8, u8)) {
+    let (expression, volume, pan) = black_box(call);
+    bench_mark();
+    black_box(S::gains(expression, volume, pan));
+    bench_mark();
+}
+
+/// Each pan, of which the dearest is looked for: a side may search its table.
+fn count_pans<S: Subject>() {
+    for pan in 0..=127 {
+        count_gains::<S>((100, 100, pan));
+        println!("dearest gains of 128 pans;1;largest;120");
+    }
+}
+
+/// The gains of a channel of a fresh device. It is counted in a run of its own: a side may make a call for gains out of it, and
+/// callgrind, which turns counting on where a function begins, would turn it off where another one does.
+pub fn run_channels<S: Subject>() {
+    let device = S::start(64);
+    let channel = black_box(0);
+    bench_mark();
+    black_box(device.channel_gains(channel));
+    bench_mark();
+    print_line("gains of a channel", 1, Target::Gains);
 }
 
 /// So many random cases are counted for the dearest of their kind.

@@ -1,7 +1,7 @@
-//! `bench`: what the proved library costs, beside the second implementation, on the same streams and pitches in one run.
+//! `bench`: what the proved library costs, beside the second implementation, on the same streams, pitches and gains in one run.
 //!
-//! Without arguments it prints times, and fails if a target is missed or the sides answer differently. `--count proved` and `--count paper` are for the script `count`, which runs them
-//! under callgrind and prints instructions.
+//! Without arguments it prints times, and fails if a target is missed or the sides answer differently. `--count proved` and `--count paper`, and
+//! `--count-channels` with the same, are for the script `count`, which runs them under callgrind and prints instructions.
 
 mod counting;
 mod streams;
@@ -21,8 +21,10 @@ fn main() -> ExitCode {
         [] => {}
         ["--count", "proved"] => counting::run::<subject::Proved>(),
         ["--count", "paper"] => counting::run::<subject::Paper>(),
+        ["--count-channels", "proved"] => counting::run_channels::<subject::Proved>(),
+        ["--count-channels", "paper"] => counting::run_channels::<subject::Paper>(),
         _ => {
-            eprintln!("usage: bench [--count proved|paper]");
+            eprintln!("usage: bench [--count proved|paper] [--count-channels proved|paper]");
             return ExitCode::FAILURE;
         }
     }

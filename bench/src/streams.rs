@@ -1,4 +1,4 @@
-//! The streams, and the pitches, that both implementations are timed on.
+//! The streams, and the pitches and gains, that both implementations are timed on.
 
 use random::Random;
 
@@ -35,6 +35,23 @@ pub fn pitches() -> Vec<(u8, u8, u16)> {
         (key, sensitivity, random.below(16384) as u16)
     };
     (0..LENGTH).map(|_| call()).collect()
+}
+
+/// Calls for gains: expression, volume and pan, all within their ranges.
+pub fn gains() -> Vec<(u8, u8, u8)> {
+    let mut random = Random::new(6);
+    let mut call = || (random.data(), random.data(), random.data());
+    (0..LENGTH).map(|_| call()).collect()
+}
+
+/// Volume, pan and expression of every channel, each of its own.
+pub fn levels() -> Vec<u8> {
+    let mut random = Random::new(7);
+    let mut of_channel = |channel: u8| {
+        let [volume, pan, expression] = [random.data(), random.data(), random.data()];
+        [0xB0 | channel, 7, volume, 10, pan, 11, expression]
+    };
+    (0..16).flat_map(&mut of_channel).collect()
 }
 
 /// A MIP message for every device.

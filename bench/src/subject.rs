@@ -1,5 +1,5 @@
-//! What is measured: an implementation that takes bytes and reports and gives pitches through calls that are not
-//! inlined, so that both sides pay for a call.
+//! What is measured: an implementation that takes bytes and reports and gives pitches and gains through calls that are
+//! not inlined, so that both sides pay for a call.
 
 /// An implementation with its answers reduced to what the measurement needs.
 pub trait Subject: Clone {
@@ -9,6 +9,10 @@ pub trait Subject: Clone {
     fn report(&mut self, generator: u8) -> bool;
     /// The octave and the entry of a pitch, also of a refused one.
     fn pitch(key: u8, sensitivity: u8, bend: u16) -> (i8, u32);
+    /// The gains left and right, also of a refused call.
+    fn gains(expression: u8, volume: u8, pan: u8) -> (f32, f32);
+    /// The gains of a channel on the wire, 0 to 15.
+    fn channel_gains(&self, channel: usize) -> (f32, f32);
 }
 
 #[derive(Clone)]
@@ -36,6 +40,18 @@ impl Subject for Proved {
         let answer = proved::pitch(key, sensitivity, bend);
         (answer.octave, answer.entry)
     }
+
+    #[inline]
+    fn gains(expression: u8, volume: u8, pan: u8) -> (f32, f32) {
+        let answer = proved::gains(expression, volume, pan);
+        (answer.left, answer.right)
+    }
+
+    #[inline]
+    fn channel_gains(&self, channel: usize) -> (f32, f32) {
+        let answer = self.0.gains(channel);
+        (answer.left, answer.right)
+    }
 }
 
 #[derive(Clone)]
@@ -60,6 +76,18 @@ fn paper_pitch(key: u8, sensitivity: u8, bend: u16) -> Result<paper::Pitch, pape
     paper::pitch(key, sensitivity, bend)
 }
 
+#[no_mangle]
+#[inline(never)]
+fn paper_gains(expression: u8, volume: u8, pan: u8) -> Result<(f32, f32), paper::Number> {
+    paper::float_gains(expression, volume, pan)
+}
+
+#[no_mangle]
+#[inline(never)]
+fn paper_channel_gains(channel: &paper::Channel) -> Result<(f32, f32), paper::Number> {
+    paper::float_gains(channel.expression, channel.volume, channel.pan)
+}
+
 impl Subject for Paper {
     fn start(polyphony: u8) -> Paper {
         Paper(paper::Device::start(polyphony, 0).0)
@@ -82,5 +110,15 @@ impl Subject for Paper {
     fn pitch(key: u8, sensitivity: u8, bend: u16) -> (i8, u32) {
         let pitch = paper_pitch(key, sensitivity, bend).unwrap_or(paper::Pitch::REFUSED);
         (pitch.octave, pitch.entry)
+    }
+
+    #[inline]
+    fn gains(expression: u8, volume: u8, pan: u8) -> (f32, f32) {
+        paper_gains(expression, volume, pan).unwrap_or((0.0, 0.0))
+    }
+
+    #[inline]
+    fn channel_gains(&self, channel: usize) -> (f32, f32) {
+        paper_channel_gains(&self.0.channels()[channel]).unwrap_or((0.0, 0.0))
     }
 }

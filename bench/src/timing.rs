@@ -1,4 +1,5 @@
-//! Times both implementations on each stream, and on pitches, and prints what a byte or a pitch costs.
+//! Times both implementations on each stream, on pitches and on gains, and prints what a byte, a pitch or a call for gains
+//! costs.
 //!
 //! The stream is cut into slices, and the two sides take each slice in alternation; of the times of a slice over several
 //! turns the median counts. So a machine that is busy with something else disturbs both sides alike, and little.
@@ -18,7 +19,7 @@ const TARGET: f64 = 8.0;
 /// Prints a row for each stream; false if a target was missed.
 pub fn run() -> bool {
     println!(
-        "medians of {TURNS} turns, the sides in alternation; ns a byte or pitch, million messages a second"
+        "medians of {TURNS} turns, the sides in alternation; ns a byte, pitch or call for gains, million messages a second"
     );
     println!(
         "{:30} {:>8} {:>8} {:>7} {:>8} {:>8}  target",
@@ -26,6 +27,7 @@ pub fn run() -> bool {
     );
     let rows: Vec<bool> = streams::all().iter().map(print_row).collect();
     print_pitches();
+    print_gains();
     rows.into_iter().all(|met| met)
 }
 
@@ -54,7 +56,7 @@ fn print_row(stream: &Stream) -> bool {
     met || !aimed
 }
 
-/// Prints what a pitch costs, over random calls within the ranges. It has no target.
+/// Prints what a pitch costs, over random calls within the ranges.
 fn print_pitches() {
     let calls = streams::pitches();
     let (mut proved, mut paper) = (Vec::new(), Vec::new());
@@ -65,10 +67,14 @@ fn print_pitches() {
         paper.push(seconds);
         assert_eq!(sum, sum_too, "the two sides answer differently");
     }
-    let [proved, paper] = [proved, paper].map(|turns| median(turns) * 1e9 / calls.len() as f64);
+    print_calls("pitches", calls.len(), proved, paper);
+}
+
+/// Prints what one of so many calls costs, by the seconds of every turn. Calls have no target.
+fn print_calls(name: &str, calls: usize, proved: Vec<f64>, paper: Vec<f64>) {
+    let [proved, paper] = [proved, paper].map(|turns| median(turns) * 1e9 / calls as f64);
     println!(
-        "{:30} {proved:>8.1} {paper:>8.1} {:>7.2} {:>8} {:>8}  -",
-        "pitches",
+        "{name:30} {proved:>8.1} {paper:>8.1} {:>7.2} {:>8} {:>8}  -",
         proved / paper,
         "-",
         "-"
@@ -85,6 +91,60 @@ fn time_pitches<S: Subject>(calls: &[(u8, u8, u16)]) -> (f64, i64) {
     });
     let sum = answered.sum();
     (clock.elapsed().as_secs_f64(), sum)
+}
+
+/// Prints what gains cost, over random calls within the ranges, and over the channels of a device.
+fn print_gains() {
+    let calls = streams::gains();
+    print_turns(
+        "gains",
+        &calls,
+        |&(expression, volume, pan)| Proved::gains(expression, volume, pan),
+        |&(expression, volume, pan)| Paper::gains(expression, volume, pan),
+    );
+    let channels: Vec<usize> = (0..calls.len()).map(|call| call % 16).collect();
+    let (proved, paper) = (with_levels::<Proved>(), with_levels::<Paper>());
+    print_turns(
+        "gains of a channel",
+        &channels,
+        |&channel| proved.channel_gains(channel),
+        |&channel| paper.channel_gains(channel),
+    );
+}
+
+/// Times both sides' gains in turn. They need not be the same, but each side's are within a millionth of the right ones.
+fn print_turns<T>(
+    name: &str,
+    calls: &[T],
+    proved: impl Fn(&T) -> (f32, f32),
+    paper: impl Fn(&T) -> (f32, f32),
+) {
+    let same = |call: &T| {
+        let (one, other) = (proved(call), paper(call));
+        (one.0 - other.0).abs() <= 2e-6 && (one.1 - other.1).abs() <= 2e-6
+    };
+    assert!(calls.iter().all(same), "the two sides answer differently");
+    let (of_proved, of_paper) = (0..TURNS)
+        .map(|_| (time_gains(calls, &proved), time_gains(calls, &paper)))
+        .unzip();
+    print_calls(name, calls.len(), of_proved, of_paper);
+}
+
+fn time_gains<T>(calls: &[T], gains: impl Fn(&T) -> (f32, f32)) -> f64 {
+    let clock = Instant::now();
+    for call in calls {
+        black_box(gains(black_box(call)));
+    }
+    clock.elapsed().as_secs_f64()
+}
+
+/// A device with levels of its own on every channel.
+fn with_levels<S: Subject>() -> S {
+    let mut device = S::start(64);
+    for byte in streams::levels() {
+        device.byte(byte);
+    }
+    device
 }
 
 /// The seconds that both sides take for the stream: the sum of its slices' medians.

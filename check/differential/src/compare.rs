@@ -3,6 +3,7 @@
 
 use crate::book::Slip;
 use crate::claims::{Claims, Exercised};
+use crate::gains::Compared;
 use crate::lists::{Event, Kind, List};
 use crate::record::{difference, Given, Implementation, Malformed, Record};
 use crate::tally::Tally;
@@ -164,6 +165,10 @@ fn queries(
     );
     let masked = same("mask query", a.masked(channel), b.masked(channel));
     let share = same("share query", a.share(channel), b.share(channel));
+    // A channel of the record, by the number that is drawn already.
+    let wire = usize::from(channel) % 16;
+    let words = || format!("gains query: channel {}", wire + 1);
+    Compared::default().take(words, &a.gains(wire), &b.gains(wire))?;
     let numbers: [Option<Number>; 3] = [view?.err(), masked?.err(), share?.err()];
     numbers.into_iter().flatten().for_each(|n| tally.query(n));
     Ok(())

@@ -3,13 +3,14 @@
 //! "A field without meaning is 0", entries and ages behind the count "are 0", generators from the polyphony on "stay
 //! idle": what breaks such a sentence is a difference as well.
 
+use crate::gains::{self, Answered, Levels};
 use crate::pitches::Call;
 use crate::record::{Given, Implementation, Items, Malformed, Record, SysExBytes, IDLE};
 use paper::{Answer, Entry, GeneratorView, Number, Pitch, Progress, State, Was};
-use proved::{Device, RECORD_BYTES};
+use proved::{Channel, Device, RECORD_BYTES};
 use random::Random;
 
-const NUMBERS: [Number; 15] = [
+const NUMBERS: [Number; 16] = [
     Number::PolyphonyOutOfRange,
     Number::IdOutOfRange,
     Number::StrayData,
@@ -25,6 +26,7 @@ const NUMBERS: [Number; 15] = [
     Number::GeneratorIdle,
     Number::NoSuchChannel,
     Number::PitchOutOfRange,
+    Number::LevelOutOfRange,
 ];
 
 /// What the memory holds before a start, which "makes the record, whatever the memory held before", and beside it.
@@ -80,6 +82,7 @@ pub fn survive_rubbish(random: &mut Random, records: usize) -> Given<()> {
             lent.device.generator(random.byte());
             lent.device.mask(random.byte());
             lent.device.share(random.byte());
+            lent.device.gains(random.below(16));
         }
         lent.neighbours_untouched()?;
     }
@@ -263,6 +266,48 @@ pub fn pitch_of(raw: proved::PitchAnswer) -> Given<Result<Pitch, Number>> {
     }
 }
 
+pub fn gains((expression, volume, pan): gains::Call) -> Answered {
+    gains_of(proved::gains(expression, volume, pan))
+}
+
+/// Gains, or a number with 0 and 0: "both gains are 0", which -0 is not.
+pub fn gains_of(raw: proved::GainsAnswer) -> Answered {
+    let silent = raw.left.to_bits() == 0 && raw.right.to_bits() == 0;
+    match number_of(raw.number) {
+        None if raw.number == 0 => Ok(Ok(Levels::Floats(raw.left, raw.right))),
+        Some(number) if silent => Ok(Err(number)),
+        _ => Err(Malformed(format!("{raw:?}"))),
+    }
+}
+
+/// As much memory on each side of a channel's numbers as a byte, taken for the place of one, could reach.
+const CHANNEL_GUARD: usize = 256;
+
+/// A channel's numbers with some memory on both sides.
+#[repr(C)]
+struct LentChannel {
+    before: [u8; CHANNEL_GUARD],
+    channel: Channel,
+    after: [u8; CHANNEL_GUARD],
+}
+
+/// The gains of a channel's numbers outside of a record. The call "changes nothing".
+pub fn channel_gains(channel: Channel) -> Answered {
+    let mut lent = LentChannel {
+        before: [RUBBISH; CHANNEL_GUARD],
+        channel,
+        after: [RUBBISH; CHANNEL_GUARD],
+    };
+    let raw = proved::channel_gains(&mut lent.channel);
+    if lent.before != [RUBBISH; CHANNEL_GUARD] || lent.after != [RUBBISH; CHANNEL_GUARD] {
+        return Err(Malformed("memory beside the numbers".to_string()));
+    }
+    if lent.channel != channel {
+        return Err(Malformed(format!("other numbers, {:?}", lent.channel)));
+    }
+    gains_of(raw)
+}
+
 impl Implementation for Lent {
     fn byte(&mut self, byte: u8) -> Given<Answer> {
         match byte {
@@ -296,6 +341,10 @@ impl Implementation for Lent {
     fn share(&self, channel: u8) -> Given<Result<u8, Number>> {
         let raw = self.device.share(channel);
         query_of(raw.number, &[raw.share], Some(raw.share))
+    }
+
+    fn gains(&self, channel: usize) -> Answered {
+        gains_of(self.device.gains(channel))
     }
 
     fn record(&self) -> Given<Record> {

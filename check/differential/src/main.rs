@@ -1,17 +1,22 @@
-//! `differential`: the proved library and the second implementation on the same events, and asked for the same pitches.
+//! `differential`: the proved library and the second implementation on the same events, and asked for the same pitches
+//! and gains.
 //!
 //! `--events N` and `--seed S` choose the run; `--all-pitches` asks for every pitch there is, not for a sample;
 //! `--self-test` shows instead that the comparison finds wrong variants. The exit code is 0 only if nothing differed
 //! and every answer was reached.
 
 mod book;
+mod channel_gains;
 mod claims;
 mod compare;
 mod drums;
+mod gains;
+mod gains_self_test;
 mod library;
 mod lists;
 mod pitches;
 mod plain;
+mod plain_gains;
 mod plain_pitch;
 mod record;
 mod reference;
@@ -22,6 +27,8 @@ mod tally;
 mod writer;
 
 use compare::{Comparison, Reached};
+use gains::Compared;
+use paper::Number;
 use random::Random;
 use std::process::ExitCode;
 use std::time::Instant;
@@ -101,7 +108,12 @@ fn differential(options: &Options) -> Result<(), String> {
         ));
     }
     let seconds = clock.elapsed().as_secs_f64();
-    reached.tally.refused_pitches(pitches(options)?);
+    let tally = &mut reached.tally;
+    tally.refused(Number::PitchOutOfRange, pitches(options)?);
+    tally.refused(
+        Number::LevelOutOfRange,
+        gains()? + channel_gains(options.seed)?,
+    );
     print(&reached, seconds);
     rubbish(options.seed)?;
     let mut missing = reached.tally.missing();
@@ -132,6 +144,38 @@ fn pitches(options: &Options) -> Result<u64, String> {
         clock.elapsed().as_secs_f64()
     );
     Ok(compared.refused)
+}
+
+/// Every call for gains, on both sides; how many of them were refused.
+fn gains() -> Result<u64, String> {
+    let clock = Instant::now();
+    let compared = gains::compare(gains::all(), reference::gains, library::gains)?;
+    print_gains("gains", compared, clock);
+    Ok(compared.refused)
+}
+
+/// Gains of channels' numbers; how many calls were refused.
+fn channel_gains(seed: u64) -> Result<u64, String> {
+    let clock = Instant::now();
+    let compared = channel_gains::compare(
+        &mut Random::new(seed),
+        reference::channel_gains,
+        library::channel_gains,
+    )?;
+    print_gains("gains of channels", compared, clock);
+    Ok(compared.refused)
+}
+
+fn print_gains(what: &str, compared: Compared, clock: Instant) {
+    let farthest = compared.farthest.thousandths_of_a_billionth();
+    println!(
+        "{} {what} compared, {} of them refused, none wrong by more than {}.{:03} billionths, {:.1} s",
+        compared.calls,
+        compared.refused,
+        farthest / 1000,
+        farthest % 1000,
+        clock.elapsed().as_secs_f64()
+    );
 }
 
 /// Records that no start made.

@@ -3,9 +3,14 @@
 //! It exists to be wrong. Told to make one mistake, it must be told apart from a right implementation by
 //! the comparison; told to make none, it must not.
 
+use crate::channel_gains::{EXPRESSION, PAN};
 use crate::drums::{excludes, DRUM_CHANNEL};
+use crate::gains::Answered;
+use crate::library;
+use crate::plain_gains::PlainGains;
 use crate::record::{Given, Implementation, Items, Record, SysExBytes, IDLE};
 use paper::{Answer, Entry, GeneratorView, Number, Progress, State, Was, MOST_GENERATORS};
+use std::sync::LazyLock;
 
 macro_rules! mistakes {
     ($($(#[$doc:meta])* $name:ident,)*) => {
@@ -82,10 +87,18 @@ mistakes! {
     ReportIgnored,
     ReportOfBusyRefused,
     ReportedGeneratorReleases,
+    // Gains of a channel.
+    GainsOfTheNextChannel,
+    GainsOfAFreshChannel,
+    GainsWithModulationForExpression,
 }
+
+/// The gains of a right ticket; what a wrong one gives is seen apart.
+static GAINS: LazyLock<PlainGains> = LazyLock::new(|| PlainGains::new(None));
 
 /// Places of the eleven numbers.
 const PROGRAM: usize = 0;
+const MODULATION: usize = 1;
 const VOLUME: usize = 2;
 const HOLD: usize = 5;
 const RPN_MSB: usize = 6;
@@ -691,6 +704,19 @@ impl Implementation for Plain {
             1..=16 => Ok(self.share_of(channel - 1).unwrap_or(0)),
             _ => Err(Number::NoSuchChannel),
         })
+    }
+
+    fn gains(&self, channel: usize) -> Answered {
+        let numbers = match self.mistake {
+            Some(Mistake::GainsOfTheNextChannel) => self.channels[(channel + 1) % 16],
+            Some(Mistake::GainsOfAFreshChannel) => FRESH_CHANNEL,
+            _ => self.channels[channel],
+        };
+        let expression = match self.mistake {
+            Some(Mistake::GainsWithModulationForExpression) => numbers[MODULATION],
+            _ => numbers[EXPRESSION],
+        };
+        library::gains_of(GAINS.answer((expression, numbers[VOLUME], numbers[PAN])))
     }
 
     fn record(&self) -> Given<Record> {

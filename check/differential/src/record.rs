@@ -1,6 +1,7 @@
 //! The device record as the paper describes it, in a form that two implementations can be compared by,
 //! and what an implementation must offer to be compared.
 
+use crate::gains::Answered;
 use paper::{
     Answer, Entry, GeneratorView, Number, Progress, State, HEAD_BYTES, MOST_GENERATORS, PAIR_BYTES,
 };
@@ -119,5 +120,7 @@ pub trait Implementation: Clone {
     fn generator(&self, generator: u8) -> Given<Result<GeneratorView, Number>>;
     fn masked(&self, channel: u8) -> Given<Result<bool, Number>>;
     fn share(&self, channel: u8) -> Given<Result<u8, Number>>;
+    /// The gains of a channel on the wire, 0 to 15.
+    fn gains(&self, channel: usize) -> Answered;
     fn record(&self) -> Given<Record>;
 }

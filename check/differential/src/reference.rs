@@ -1,5 +1,7 @@
 //! The second implementation, the crate `paper`, as one side of the comparison.
 
+use crate::channel_gains::{EXPRESSION, PAN, VOLUME};
+use crate::gains::{self, Answered, Levels};
 use crate::pitches::Call;
 use crate::record::{Given, Implementation, Items, Record, SysExBytes, IDLE};
 use paper::{
@@ -13,6 +15,15 @@ pub fn start(polyphony: u8, id: u8) -> (Device, Given<Answer>) {
 
 pub fn pitch((key, sensitivity, bend): Call) -> Given<Result<Pitch, Number>> {
     Ok(paper::pitch(key, sensitivity, bend))
+}
+
+pub fn gains((expression, volume, pan): gains::Call) -> Answered {
+    Ok(paper::gains(expression, volume, pan).map(Levels::Exact))
+}
+
+/// The gains of a channel's numbers.
+pub fn channel_gains(channel: proved::Channel) -> Answered {
+    gains((channel[EXPRESSION], channel[VOLUME], channel[PAN]))
 }
 
 /// The bytes of a SysEx that overflowed count one more than were kept.
@@ -42,6 +53,11 @@ impl Implementation for Device {
 
     fn share(&self, channel: u8) -> Given<Result<u8, Number>> {
         Ok(Device::share(self, channel))
+    }
+
+    fn gains(&self, channel: usize) -> Answered {
+        let channel = &self.channels()[channel];
+        gains((channel.expression, channel.volume, channel.pan))
     }
 
     fn record(&self) -> Given<Record> {

@@ -4,7 +4,7 @@ use crate::book::SLIPS;
 use crate::compare::{Comparison, Failure};
 use crate::plain::{Mistake, Plain, MISTAKES};
 use crate::plain_pitch::{self, PlainPitch};
-use crate::{library, pitches, reference};
+use crate::{gains_self_test, library, pitches, reference};
 use random::Random;
 
 /// Every wrong variant must be found within so many events.
@@ -56,6 +56,7 @@ pub fn run(seed: u64) -> Vec<String> {
     }
     complaints.extend(wrong_pitches(seed));
     complaints.extend(wrong_entries(seed));
+    complaints.extend(gains_self_test::run(seed));
     complaints
 }
 

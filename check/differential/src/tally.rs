@@ -17,8 +17,8 @@ const REPORTS: [&str; 3] = [
     "report of a releasing one",
 ];
 
-/// Document 01's numbers, each one place before its own, and that of a pitch behind them.
-const NUMBERS: [(Number, &str); 15] = [
+/// Document 01's numbers, each one place before its own, and those of pitches and gains behind them.
+const NUMBERS: [(Number, &str); 16] = [
     (Number::PolyphonyOutOfRange, "P not 1 to 64"),
     (Number::IdOutOfRange, "ID above 126"),
     (Number::StrayData, "stray data byte"),
@@ -34,10 +34,11 @@ const NUMBERS: [(Number, &str); 15] = [
     (Number::GeneratorIdle, "generator idle"),
     (Number::NoSuchChannel, "no such channel"),
     (Number::PitchOutOfRange, "pitch out of range"),
+    (Number::LevelOutOfRange, "level above 127"),
 ];
 
 /// A place for each number, the highest included; those that nobody has stay 0.
-const PLACES: usize = 1 + Number::PitchOutOfRange as usize;
+const PLACES: usize = 1 + Number::LevelOutOfRange as usize;
 
 #[derive(Clone, Debug, Default)]
 pub struct Tally {
@@ -46,7 +47,7 @@ pub struct Tally {
     reports: [u64; 3],
     /// Numbers that starts, bytes and reports answered.
     numbers: [u64; PLACES],
-    /// Numbers that queries and pitches gave, apart: 12 has both.
+    /// Numbers that queries, pitches and gains gave, apart: 12 has both.
     queries: [u64; PLACES],
 }
 
@@ -82,9 +83,9 @@ impl Tally {
         self.queries[number as usize] += 1;
     }
 
-    /// So many pitches were refused.
-    pub fn refused_pitches(&mut self, count: u64) {
-        self.queries[Number::PitchOutOfRange as usize] += count;
+    /// So many pitches or gains were refused, by this number.
+    pub fn refused(&mut self, number: Number, count: u64) {
+        self.queries[number as usize] += count;
     }
 
     /// The kinds and numbers that never came.
@@ -95,7 +96,7 @@ impl Tally {
             .collect()
     }
 
-    /// Each kind and number with its count. Number 14 comes of queries alone, 21 of pitches, 12 of queries as well.
+    /// Each kind and number with its count. Number 14 comes of queries alone, 21 of pitches, 24 of gains, 12 of queries as well.
     fn rows(&self) -> impl Iterator<Item = (String, u64)> + '_ {
         let row = |(number, words): (Number, &str), counts: &[u64; PLACES]| {
             let count = counts[number as usize];
@@ -108,8 +109,8 @@ impl Tally {
         let numbers = numbers.map(move |&named| row(named, &self.numbers));
         let query = |(name, count)| (format!("{name}, query"), count);
         let queries = [12, 14].map(|number| query(row(NUMBERS[number - 1], &self.queries)));
-        let pitches = [row(NUMBERS[14], &self.queries)];
-        kinds.chain(numbers).chain(queries).chain(pitches)
+        let others = [NUMBERS[14], NUMBERS[15]].map(|named| row(named, &self.queries));
+        kinds.chain(numbers).chain(queries).chain(others)
     }
 }
 

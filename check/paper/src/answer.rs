@@ -1,4 +1,4 @@
-//! What a call answers: the paper's *note*, *done*, *none*, or one of its numbers 1 to 14; and the number of document 02's ticket 7.
+//! What a call answers: the paper's *note*, *done*, *none*, or one of its numbers 1 to 14; and the numbers of document 02's tickets 7 and 13.
 
 /// "What the generator was" before a note took it.
 #[derive(Clone, Copy, Debug, PartialEq, Eq)]
@@ -8,7 +8,7 @@ pub enum Was {
     Stolen,
 }
 
-/// The table "Numbers and what they leave", and the number of a refused pitch.
+/// The table "Numbers and what they leave", and the numbers of a refused pitch and of refused gains.
 #[derive(Clone, Copy, Debug, PartialEq, Eq)]
 #[repr(u8)]
 pub enum Number {
@@ -27,6 +27,7 @@ pub enum Number {
     GeneratorIdle = 13,
     NoSuchChannel = 14,
     PitchOutOfRange = 21,
+    LevelOutOfRange = 24,
 }
 
 /// "The answer is *note*, *done*, *none*, or a number." Channels count from 1 to 16 here, as in the paper.

@@ -1,5 +1,5 @@
-//! Document 01, "The note allocator of a scalable polyphony module", and ticket 7 of document 02, the pitch
-//! of a note, written by hand in plain Rust.
+//! Document 01, "The note allocator of a scalable polyphony module", and tickets 7 and 13 of document 02, the pitch
+//! of a note and the gains of a channel, written by hand in plain Rust.
 //!
 //! This is a second implementation, made from the papers alone. It serves as the other side of the
 //! differential test and as the baseline of the benchmark, so it is written as for a small sound
@@ -11,7 +11,9 @@ mod age;
 mod answer;
 mod channel;
 mod device;
+mod distance;
 mod drums;
+mod gains;
 mod generators;
 mod parser;
 mod pitch;
@@ -20,6 +22,8 @@ mod table;
 pub use answer::{Answer, Number, Was};
 pub use channel::Channel;
 pub use device::Device;
+pub use distance::Distance;
+pub use gains::{float_gains, gains, Gain, Gains, WEIGHTS};
 pub use generators::{GeneratorView, State, MOST_GENERATORS};
 pub use parser::{Parser, Progress, SysEx, HEAD_BYTES, PAIR_BYTES};
 pub use pitch::{pitch, Pitch};

@@ -1,4 +1,4 @@
-//! The proved library through its C header, `include/muntinorris.h`: the same structures, the same seven calls.
+//! The proved library through its C header, `include/muntinorris.h`: the same structures, the same nine calls.
 //!
 //! The only unsafe code is here. The header wants a record that a start made; on any other bytes a call "still returns, and
 //! touches no memory but the record", so that nothing here can go wrong for Rust.
@@ -53,6 +53,15 @@ pub struct ShareAnswer {
 pub struct PitchAnswer {
     pub entry: u32,
     pub octave: i8,
+    pub number: u8,
+}
+
+/// `struct muntinorris_gains_answer`. Two of them are compared by the bits of their floats, so `==` is not offered.
+#[repr(C)]
+#[derive(Clone, Copy, Debug)]
+pub struct GainsAnswer {
+    pub left: f32,
+    pub right: f32,
     pub number: u8,
 }
 
@@ -124,6 +133,10 @@ pub struct Device {
     pub instrument: Instrument,
 }
 
+const _: () = assert!(
+    std::mem::size_of::<GainsAnswer>() == 12 && std::mem::offset_of!(GainsAnswer, number) == 8
+);
+
 const _: () =
     assert!(std::mem::size_of::<Device>() == RECORD_BYTES && std::mem::align_of::<Device>() == 1);
 
@@ -135,13 +148,30 @@ extern "C" {
     fn muntinorris_mask(device: *const Device, channel: u8) -> MaskAnswer;
     fn muntinorris_share(device: *const Device, channel: u8) -> ShareAnswer;
     fn muntinorris_pitch(key: u8, sensitivity: u8, bend: u16) -> PitchAnswer;
+    fn muntinorris_gains(expression: u8, volume: u8, pan: u8) -> GainsAnswer;
+    fn muntinorris_channel_gains(channel: *const Channel) -> GainsAnswer;
 }
 
-/// The one call that wants no record.
+/// A call that wants no record.
 #[inline]
 pub fn pitch(key: u8, sensitivity: u8, bend: u16) -> PitchAnswer {
     // SAFETY: numbers go in and come out; no memory is lent.
     unsafe { muntinorris_pitch(key, sensitivity, bend) }
+}
+
+/// Another one.
+#[inline]
+pub fn gains(expression: u8, volume: u8, pan: u8) -> GainsAnswer {
+    // SAFETY: as for `pitch`.
+    unsafe { muntinorris_gains(expression, volume, pan) }
+}
+
+/// The gains of a channel's numbers, outside of a record. They are lent for writing, which the call does not do, so
+/// that a caller can look whether it did.
+#[inline]
+pub fn channel_gains(channel: &mut Channel) -> GainsAnswer {
+    // SAFETY: the pointer is to all the numbers of a channel, and this borrow is the only one.
+    unsafe { muntinorris_channel_gains(channel) }
 }
 
 impl Device {
@@ -182,5 +212,12 @@ impl Device {
     pub fn share(&self, channel: u8) -> ShareAnswer {
         // SAFETY: as for `generator`.
         unsafe { muntinorris_share(self, channel) }
+    }
+
+    /// The gains of a channel on the wire, 0 to 15.
+    #[inline]
+    pub fn gains(&self, channel: usize) -> GainsAnswer {
+        // SAFETY: the pointer is to all the numbers of a channel; the call only reads them.
+        unsafe { muntinorris_channel_gains(&self.instrument.channels[channel]) }
     }
 }
