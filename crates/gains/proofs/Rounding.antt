@@ -1,4 +1,5 @@
--- What rounding to an `f32` adds to an error: at most 2 ^ 125 of the format's smallest values, 2 ^ -149 each, for a fraction below 2.
+-- What rounding to an `f32` adds to an error: at most 2 ^ 125 of the format's smallest values, 2 ^ -149 each, for a fraction below 2. A quotient of whole numbers is rounded once; a product
+-- doubles the errors of its factors, which are at most a little above 1, and is rounded once more (`Frac`). So a gain's three quotients and two products come to 13 * 2 ^ 125, below a millionth.
 -- Assumes nothing.
 use mathlib.Core.Path.{_≡_, refl, sym, ap, _∙_, subst}
 use mathlib.Core.Logic.{_⊎_, inl, inr, ⊎-elim}
@@ -132,13 +133,13 @@ grid-close a c pos h =
     halved U H a c k (closest (a * U) (c * 2 ^ k)) (pow-mono (few a c pos h)) (closest-half (a * U) (c * 2 ^ k) (mul-pos pos (pow-pos k)))
 
 -- ---- x is near a / c: its value is some number of units that is within E units of a / c
-pub record Near (x : Float) (a c E : ℕ) : Type 0 where
+pub record CloseTo (x : Float) (a c E : ℕ) : Type 0 where
   pub g : ℕ
   pub value : HasValue x false g U
   pub close : Close U g a c E
 
-pub round-near : (a c : ℕ) → 0 < c → a < c * 2 → Near (round binary32 false a c) a c H
-round-near a c pos h = record { g = grid binary32 a c; value = round-val binary32 a c under; close = grid-close a c pos h }
+pub round-close : (a c : ℕ) → 0 < c → a < c * 2 → CloseTo (round binary32 false a c) a c H
+round-close a c pos h = record { g = grid binary32 a c; value = round-val binary32 a c under; close = grid-close a c pos h }
   where
     bound : grid binary32 a c ≤ 2 ^ 151
     bound = four U H (grid binary32 a c) a c pos (lit≤ tt) h (grid-close a c pos h)
@@ -165,14 +166,14 @@ mul-at (fin false m e) (fin false n f) a c b d C D h k =
     round-same binary32 false (m * up e * (n * up f)) (down e * down f) (a * b) (c * d) (mul-pos (down-pos e) (down-pos f)) (mul-pos C D)
     (mul-mul-mul-comm (m * up e) (n * up f) c d ∙ ap (λ (z : ℕ). z * (n * up f * d)) (h .1) ∙ ap (λ (z : ℕ). a * down e * z) (k .1) ∙ mul-mul-mul-comm a (down e) b (down f))
 
-pub mul-near : (x y : Float) (a c E b d F : ℕ) → 0 < c → 0 < d → a ≤ c → b ≤ d → E * 4 ≤ U → F * 4 ≤ U → Near x a c E → Near y b d F → Near (mul binary32 x y) (a * b) (c * d) (E * 2 + F * 2 + H)
-mul-near x y a c E b d F C D A B sE sF p q =
+pub mul-close : (x y : Float) (a c E b d F : ℕ) → 0 < c → 0 < d → a ≤ c → b ≤ d → E * 4 ≤ U → F * 4 ≤ U → CloseTo x a c E → CloseTo y b d F → CloseTo (mul binary32 x y) (a * b) (c * d) (E * 2 + F * 2 + H)
+mul-close x y a c E b d F C D A B sE sF p q =
     let g = p .g in
     let h = q .g in
     let sg : g * 4 ≤ U * 5 = small U g a c E C A sE (p .close) in
     let sh : h * 4 ≤ U * 5 = small U h b d F D B sF (q .close) in
-    let r = round-near (g * h) (U * U) (lit< tt) (below-two U g h (lit< tt) sg sh) in
-    subst (λ (z : Float). Near z (a * b) (c * d) (E * 2 + F * 2 + H)) (sym (mul-at x y g U h U (lit< tt) (lit< tt) (p .value) (q .value)))
+    let r = round-close (g * h) (U * U) (lit< tt) (below-two U g h (lit< tt) sg sh) in
+    subst (λ (z : Float). CloseTo z (a * b) (c * d) (E * 2 + F * 2 + H)) (sym (mul-at x y g U h U (lit< tt) (lit< tt) (p .value) (q .value)))
     (record {
       g = r .g;
       value = r .value;
@@ -209,10 +210,10 @@ div-at (fin false l d) n f m e h nz F k = go (eqb m 0) nz
     go true t = absurd t
     go false t = round-same binary32 false (l * up d * down e) (m * up e * down d) n f (mul-pos above (down-pos d)) F whole
 
-pub quotient : (n f m : ℕ) (e : ℤ) → n ≤ 2 ^ 24 → n ≤ f → T (not (eqb m 0)) → 0 < f → HasValue (fin false m e) false f 1 → Near (div binary32 (ofInt binary32 (plus n)) (fin false m e)) n f H
+pub quotient : (n f m : ℕ) (e : ℤ) → n ≤ 2 ^ 24 → n ≤ f → T (not (eqb m 0)) → 0 < f → HasValue (fin false m e) false f 1 → CloseTo (div binary32 (ofInt binary32 (plus n)) (fin false m e)) n f H
 unfolding ofInt
 quotient n f m e fits below nz F k =
-    subst (λ (z : Float). Near z n f H) (sym (div-at (round binary32 false n 1) n f m e (round-whole binary32 false n fits) nz F k)) (round-near n f F (omega arith))
+    subst (λ (z : Float). CloseTo z n f H) (sym (div-at (round binary32 false n 1) n f m e (round-whole binary32 false n fits) nz F k)) (round-close n f F (omega arith))
 
 -- ---- what a caller is told
 told : (N K M m u w g a c : ℕ) → 0 < N → K * M ≤ N → m * u * N ≡ g * w → Close N g a c K → (m * u * c * M ≤ (a * M + c) * w) × (a * M * w ≤ (m * u * M + w) * c)
@@ -239,7 +240,7 @@ told N K M m u w g a c pos k v x = (
       omega arith) pos,
 )
 
-pub within : (M : ℕ) (x : Float) (a c E : ℕ) → E * M ≤ U → Near x a c E → Within M x a c
+pub within : (M : ℕ) (x : Float) (a c E : ℕ) → E * M ≤ U → CloseTo x a c E → Within M x a c
 within M nan a c E k p = absurd (p .value)
 within M (inf s) a c E k p = absurd (p .value)
 within M (fin s m e) a c E k p =
