@@ -9,14 +9,14 @@ use native.Mathlib.Nat.{le-trans, le-of-eq, le-of-lt, lt-of-le-of-lt, mul-comm, 
 use native.Mathlib.Omega.{arith}
 use lib.Dec.{T, isLe, isEq, eqb, leb→le, nleb→lt, eqb→eq, eqb-refl, lit≤, lit<}
 use lib.Arith.{lt-of-le-ne}
-use lib.Pow.{pow-pos, pow-mono}
+use lib.Pow.{pow-pos, pow-mono, pow-add}
 use lib.Ieee.{Float, nan, inf, fin, Format, binary32, prec, low, up, down, size, nearest, round, mul, div, ofInt}
 use lib.Ieee.Digits.{size-le}
 use lib.Ieee.Fits.{up-pos, down-pos}
 use lib.IntN.{ℤ, pos as plus}
 use lib.Ieee.Exact.{HasValue}
 use lib.Ieee.Back.{round-whole}
-use lib.Ieee.Nearest.{closest}
+use lib.Ieee.Nearest.{closest, closest-mono}
 use lib.Ieee.Order.{drop, kept}
 use lib.Ieee.Scale.{grid, overflow, round-val, round-same}
 use Rattle.gains.specs.Within.{Within}
@@ -67,7 +67,7 @@ nearest-half q r a b Ordering·gt e l h = subst (λ (n : ℕ). Half n a b) (omeg
 closest-half : (a b : ℕ) → 0 < b → Half (closest a b) a b
 closest-half a b pos = nearest-half (a / b) (a % b) a b (compare (a % b * 2) b) (div-add-mod' a b) (mod-lt a pos) (cmp (a % b * 2) b)
 
--- ---- a fraction below 2, rounded: in units of 2 ^ -149
+-- ---- a fraction that is at most 1, rounded: in units of 2 ^ -149
 abbrev pub U : ℕ
 U = 2 ^ 149
 
@@ -75,9 +75,6 @@ abbrev pub H : ℕ
 H = 2 ^ 125
 
 -- `omega` refuses numbers of more than 38 digits, so what it is to prove of U and H is proved of any such numbers
-scaled : (N a c : ℕ) → 0 < N → a < c * 2 → a * N < N * 2 * c
-scaled N a c pos h = subst (λ (z : ℕ). a * N < z) (simp (mul-assoc, mul-comm)) (mul-lt-mul-of-pos-right h pos)
-
 halved : (N K a c k z : ℕ) → 2 ^ k ≤ K * 2 → Half z (a * N) (c * 2 ^ k) → Close N (z * 2 ^ k) a c K
 halved N K a c k z few half =
     let e : z * 2 ^ k * c ≡ z * (c * 2 ^ k) = simp (mul-assoc, mul-comm, mul-left-comm) in
@@ -87,65 +84,52 @@ halved N K a c k z few half =
     let r = half .1 in
     record { over = omega arith; under = omega arith }
 
-four : (N K g a c : ℕ) → 0 < c → K ≤ N → a < c * 2 → Close N g a c K → g ≤ N * 4
-four N K g a c pos k h x =
-    le-of-mul-le-mul-right (
-    let o = x .over in
-    let t : a * N ≤ c * 2 * N = mul-le-mul-right N (le-of-lt h) in
-    let s : K * c ≤ N * c = mul-le-mul-right c k in
-    let e1 : c * 2 * N ≡ N * c * 2 = simp (mul-assoc, mul-comm, mul-left-comm) in
-    let e2 : N * 4 * c ≡ N * c * 4 = simp (mul-assoc, mul-comm, mul-left-comm) in
-    omega arith) pos
-
--- a fraction near one that is at most 1 is at most 5 / 4
-small : (N g a c E : ℕ) → 0 < c → a ≤ c → E * 4 ≤ N → Close N g a c E → g * 4 ≤ N * 5
-small N g a c E pos A k x =
-    le-of-mul-le-mul-right (
-    let o = x .over in
-    let t : a * N ≤ c * N = mul-le-mul-right N A in
-    let s : E * 4 * c ≤ N * c = mul-le-mul-right c k in
-    let e1 : g * 4 * c ≡ g * c * 4 = simp (mul-assoc, mul-comm, mul-left-comm) in
-    let e2 : E * 4 * c ≡ E * c * 4 = simp (mul-assoc, mul-comm, mul-left-comm) in
-    let e3 : N * 5 * c ≡ N * c * 5 = simp (mul-assoc, mul-comm, mul-left-comm) in
-    let e4 : c * N ≡ N * c = mul-comm c N in
-    omega arith) pos
-
-twice : (N g : ℕ) → g * 4 ≤ N * 5 → g ≤ N * 2
-twice N g h = omega arith
-
-below-two : (N g h : ℕ) → 0 < N * N → g * 4 ≤ N * 5 → h * 4 ≤ N * 5 → g * h < N * N * 2
-below-two N g h pos x y =
-    let s : g * 4 * (h * 4) ≤ N * 5 * (N * 5) = mul-le-mul x y in
-    let e1 : g * 4 * (h * 4) ≡ g * h * 16 = mul-mul-mul-comm g 4 h 4 in
-    let e2 : N * 5 * (N * 5) ≡ N * N * 25 = mul-mul-mul-comm N 5 N 5 in
-    omega arith
-
--- fewer than 127 digits are dropped
+-- at most 126 digits are dropped
 dropped : (s : ℕ) → s ≤ 150 → s - 24 ≤ 126
 dropped s h = omega arith
 
-few : (a c : ℕ) → 0 < c → a < c * 2 → drop 24 (a * U) c ≤ 126
-few a c pos h = dropped (size (a * U / c)) (size-le (a * U / c) 150 (div-lt-iff-lt-mul pos .1 (scaled U a c (lit< tt) h)))
+few : (a c : ℕ) → 0 < c → a ≤ c → drop 24 (a * U) c ≤ 126
+few a c pos h = dropped (size (a * U / c)) (size-le (a * U / c) 150 (div-lt-iff-lt-mul pos .1 (lt-of-le-of-lt (mul-le-mul-right U h) (subst (λ (z : ℕ). z < 2 ^ 150 * c) (mul-comm U c) (mul-lt-mul-of-pos-right (lit< tt) pos)))))
 
-grid-close : (a c : ℕ) → 0 < c → a < c * 2 → Close U (grid binary32 a c) a c H
+grid-close : (a c : ℕ) → 0 < c → a ≤ c → Close U (grid binary32 a c) a c H
 grid-close a c pos h =
     let k = drop 24 (a * U) c in
     halved U H a c k (closest (a * U) (c * 2 ^ k)) (pow-mono (few a c pos h)) (closest-half (a * U) (c * 2 ^ k) (mul-pos pos (pow-pos k)))
 
--- ---- x is near a / c: its value is some number of units that is within E units of a / c
+-- Rounding keeps the order, and with k digits dropped 1 is still a whole number, q, of what is kept: so that no fraction up to 1 is rounded to more
+whole : (n : ℕ) → closest n 1 ≡ n
+whole n = let h = closest-half n 1 (omega arith) in let l = h .0 in let r = h .1 in omega arith
+
+fits-in : (N a c k q : ℕ) → a ≤ c → q * 2 ^ k ≡ N → a * N * 1 ≤ q * (c * 2 ^ k)
+fits-in N a c k q h e =
+    let t : a * N ≤ c * N = mul-le-mul-right N h in
+    let u : c * N ≡ q * (c * 2 ^ k) = ap (λ (n : ℕ). c * n) (sym e) ∙ mul-left-comm c q (2 ^ k) in
+    omega arith
+
+capped-by : (N a c k q : ℕ) → 0 < c → a ≤ c → q * 2 ^ k ≡ N → closest (a * N) (c * 2 ^ k) * 2 ^ k ≤ N
+capped-by N a c k q pos h e =
+    let m = closest-mono (a * N) (c * 2 ^ k) q 1 (mul-pos pos (pow-pos k)) (lit< tt) (fits-in N a c k q h e) in
+    le-trans (mul-le-mul-right (2 ^ k) (subst (λ (z : ℕ). closest (a * N) (c * 2 ^ k) ≤ z) (whole q) m)) (le-of-eq e)
+
+rest : (k : ℕ) → k ≤ 126 → 149 - k + k ≡ 149
+rest k h = omega arith
+
+grid-capped : (a c : ℕ) → 0 < c → a ≤ c → grid binary32 a c ≤ U
+grid-capped a c pos h =
+    let k = drop 24 (a * U) c in
+    capped-by U a c k (2 ^ (149 - k)) pos h (sym (pow-add 2 (149 - k) k) ∙ ap (λ (n : ℕ). 2 ^ n) (rest k (few a c pos h)))
+
+-- ---- x is near a / c: its value is some number of units, at most those of 1, that is within E units of a / c
 pub record CloseTo (x : Float) (a c E : ℕ) : Type 0 where
   pub g : ℕ
   pub value : HasValue x false g U
+  pub capped : g ≤ U
   pub close : Close U g a c E
 
-pub round-close : (a c : ℕ) → 0 < c → a < c * 2 → CloseTo (round binary32 false a c) a c H
-round-close a c pos h = record { g = grid binary32 a c; value = round-val binary32 a c under; close = grid-close a c pos h }
-  where
-    bound : grid binary32 a c ≤ 2 ^ 151
-    bound = four U H (grid binary32 a c) a c pos (lit≤ tt) h (grid-close a c pos h)
-
-    under : grid binary32 a c < overflow binary32
-    under = lt-of-le-of-lt bound (lit< tt)
+pub round-close : (a c : ℕ) → 0 < c → a ≤ c → CloseTo (round binary32 false a c) a c H
+round-close a c pos h =
+    let m = grid-capped a c pos h in
+    record { g = grid binary32 a c; value = round-val binary32 a c (lt-of-le-of-lt m (lit< tt)); capped = m; close = grid-close a c pos h }
 
 -- ---- an operation's result is its exact result, rounded, by any fractions that its operands equal
 mul-at : (x y : Float) (a c b d : ℕ) → 0 < c → 0 < d → HasValue x false a c → HasValue y false b d → mul binary32 x y ≡ round binary32 false (a * b) (c * d)
@@ -166,18 +150,17 @@ mul-at (fin false m e) (fin false n f) a c b d C D h k =
     round-same binary32 false (m * up e * (n * up f)) (down e * down f) (a * b) (c * d) (mul-pos (down-pos e) (down-pos f)) (mul-pos C D)
     (mul-mul-mul-comm (m * up e) (n * up f) c d ∙ ap (λ (z : ℕ). z * (n * up f * d)) (h .1) ∙ ap (λ (z : ℕ). a * down e * z) (k .1) ∙ mul-mul-mul-comm a (down e) b (down f))
 
-pub mul-close : (x y : Float) (a c E b d F : ℕ) → 0 < c → 0 < d → a ≤ c → b ≤ d → E * 4 ≤ U → F * 4 ≤ U → CloseTo x a c E → CloseTo y b d F → CloseTo (mul binary32 x y) (a * b) (c * d) (E * 2 + F * 2 + H)
-mul-close x y a c E b d F C D A B sE sF p q =
+pub mul-close : (x y : Float) (a c E b d F : ℕ) → 0 < c → 0 < d → a ≤ c → b ≤ d → CloseTo x a c E → CloseTo y b d F → CloseTo (mul binary32 x y) (a * b) (c * d) (E + F + H)
+mul-close x y a c E b d F C D A B p q =
     let g = p .g in
     let h = q .g in
-    let sg : g * 4 ≤ U * 5 = small U g a c E C A sE (p .close) in
-    let sh : h * 4 ≤ U * 5 = small U h b d F D B sF (q .close) in
-    let r = round-close (g * h) (U * U) (lit< tt) (below-two U g h (lit< tt) sg sh) in
-    subst (λ (z : Float). CloseTo z (a * b) (c * d) (E * 2 + F * 2 + H)) (sym (mul-at x y g U h U (lit< tt) (lit< tt) (p .value) (q .value)))
+    let r = round-close (g * h) (U * U) (lit< tt) (mul-le-mul (p .capped) (q .capped)) in
+    subst (λ (z : Float). CloseTo z (a * b) (c * d) (E + F + H)) (sym (mul-at x y g U h U (lit< tt) (lit< tt) (p .value) (q .value)))
     (record {
       g = r .g;
       value = r .value;
-      close = rounded U (g * h) (a * b) (c * d) (E * 2 + F * 2) (r .g) H (lit< tt) (product U a c E g b d F h A B (twice U g sg) (twice U h sh) (p .close) (q .close)) (r .close);
+      capped = r .capped;
+      close = rounded U (g * h) (a * b) (c * d) (E + F) (r .g) H (lit< tt) (product U a c E g b d F h A (p .capped) B (q .capped) (p .close) (q .close)) (r .close);
     })
 
 -- a whole number, at most 2 ^ 24, over a whole number that is a value of the format
@@ -213,7 +196,7 @@ div-at (fin false l d) n f m e h nz F k = go (eqb m 0) nz
 pub quotient : (n f m : ℕ) (e : ℤ) → n ≤ 2 ^ 24 → n ≤ f → T (not (eqb m 0)) → 0 < f → HasValue (fin false m e) false f 1 → CloseTo (div binary32 (ofInt binary32 (plus n)) (fin false m e)) n f H
 unfolding ofInt
 quotient n f m e fits below nz F k =
-    subst (λ (z : Float). CloseTo z n f H) (sym (div-at (round binary32 false n 1) n f m e (round-whole binary32 false n fits) nz F k)) (round-close n f F (omega arith))
+    subst (λ (z : Float). CloseTo z n f H) (sym (div-at (round binary32 false n 1) n f m e (round-whole binary32 false n fits) nz F k)) (round-close n f F below)
 
 -- ---- what a caller is told
 told : (N K M m u w g a c : ℕ) → 0 < N → K * M ≤ N → m * u * N ≡ g * w → Close N g a c K → (m * u * c * M ≤ (a * M + c) * w) × (a * M * w ≤ (m * u * M + w) * c)

@@ -34,8 +34,8 @@ weighed-close w h = quotient w 32768 1 (pos 15) (le-trans h (lit≤ tt)) h tt (l
 -- the last line of the body
 gained : (e v w : ℕ) → e < 128 → v < 128 → w ≤ 32768 → Near e v w (mul binary32 (mul binary32 (squared e) (squared v)) (weighed w))
 gained e v w he hv hw =
-    let level = mul-close _ _ (e * e) 16129 H (v * v) 16129 H (lit< tt) (lit< tt) (square e he) (square v hv) (lit≤ tt) (lit≤ tt) (squared-close e he) (squared-close v hv) in
-    let all = mul-close _ _ (e * e * (v * v)) (16129 * 16129) _ w 32768 H (lit< tt) (lit< tt) (mul-le-mul (square e he) (square v hv)) hw (lit≤ tt) (lit≤ tt) level (weighed-close w hw) in
+    let level = mul-close _ _ (e * e) 16129 H (v * v) 16129 H (lit< tt) (lit< tt) (square e he) (square v hv) (squared-close e he) (squared-close v hv) in
+    let all = mul-close _ _ (e * e * (v * v)) (16129 * 16129) _ w 32768 H (lit< tt) (lit< tt) (mul-le-mul (square e he) (square v hv)) hw level (weighed-close w hw) in
     within _ _ (e * e * (v * v) * w) (16129 * 16129 * 32768) _ (lit≤ tt) all
 
 mul-e2 : tie.Need-mul-e2
