@@ -98,8 +98,8 @@ struct muntinorris_pitch_answer {
 };
 
 /*
- * The gains of a channel: what the mixer multiplies its samples by, left and right. Each is a number from 0 on, never negative, and within one millionth of the exact fraction,
- * which is at most 1. number is 0, or 24 where the call was refused, and then both gains are 0. (Three bytes of padding behind number.)
+ * The gains of a channel: what the mixer multiplies its samples by, left and right. Each is a number from 0 to 1, neither more nor -0, and within one millionth of the exact
+ * fraction. number is 0, or 24 where the call was refused, and then both gains are 0. (Three bytes of padding behind number.)
  */
 struct muntinorris_gains_answer {
     float left;

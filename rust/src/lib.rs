@@ -68,7 +68,7 @@ pub struct Pitch {
     pub entry: u32,
 }
 
-/// The gains of a channel: what the mixer multiplies its samples by. Each is within one millionth of the exact fraction, which is at most 1, and never negative.
+/// The gains of a channel: what the mixer multiplies its samples by. Each is a number from 0 to 1, within one millionth of the exact fraction.
 #[derive(Clone, Copy, Debug, PartialEq)]
 pub struct Gains {
     pub left: f32,

@@ -14,8 +14,8 @@ IsNumber x = T (not (isNan x))
 
 near-number : (e v w : ℕ) (x : Float) → Near e v w x → IsNumber x
 unfolding isNan
-near-number e v w nan h = h
-near-number e v w (inf s) h = absurd h
+near-number e v w nan h = h .0
+near-number e v w (inf s) h = absurd (h .0)
 near-number e v w (fin s m k) h = tt
 
 gives-numbers : (t : Bool) (e v p : ℕ) (g : Gains) → Gives t e v p g → IsNumber (g .left) × IsNumber (g .right)

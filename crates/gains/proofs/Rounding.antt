@@ -1,5 +1,6 @@
--- What rounding to an `f32` adds to an error: at most 2 ^ 125 of the format's smallest values, 2 ^ -149 each, for a fraction below 2. A quotient of whole numbers is rounded once; a product
--- doubles the errors of its factors, which are at most a little above 1, and is rounded once more (`Frac`). So a gain's three quotients and two products come to 13 * 2 ^ 125, below a millionth.
+-- What rounding to an `f32` adds to an error: at most 2 ^ 125 of the format's smallest values, 2 ^ -149 each, for a fraction that is at most 1; and what is rounded is at most 1 again. A quotient of
+-- whole numbers is rounded once. In a product of two such fractions the errors add up (`Frac`), and it is rounded once more. So a gain's three quotients and two products come to 5 * 2 ^ 125 of
+-- these values, three ten-millionths.
 -- Assumes nothing.
 use mathlib.Core.Path.{_≡_, refl, sym, ap, _∙_, subst}
 use mathlib.Core.Logic.{_⊎_, inl, inr, ⊎-elim}
@@ -19,7 +20,7 @@ use lib.Ieee.Back.{round-whole}
 use lib.Ieee.Nearest.{closest, closest-mono}
 use lib.Ieee.Order.{drop, kept}
 use lib.Ieee.Scale.{grid, overflow, round-val, round-same}
-use Rattle.gains.specs.Within.{Within}
+use Rattle.gains.specs.Within.{Within, AtMost1}
 use Rattle.gains.proofs.Frac.{Close, Product, product, rounded}
 
 -- ---- what `compare` says
@@ -229,3 +230,11 @@ within M (inf s) a c E k p = absurd (p .value)
 within M (fin s m e) a c E k p =
     let t = told U E M m (up e) (down e) (p .g) a c (lit< tt) k (p .value .1) (p .close) in
     (p .value .0, t .0, t .1)
+
+not-above : (N m u w g : ℕ) → 0 < N → m * u * N ≡ g * w → g ≤ N → m * u ≤ w
+not-above N m u w g pos e h = le-of-mul-le-mul-right (le-trans (le-of-eq e) (le-trans (mul-le-mul-right w h) (le-of-eq (mul-comm N w)))) pos
+
+pub at-most-1 : (x : Float) (a c E : ℕ) → CloseTo x a c E → AtMost1 x
+at-most-1 nan a c E p = absurd (p .value)
+at-most-1 (inf s) a c E p = absurd (p .value)
+at-most-1 (fin s m e) a c E p = not-above U m (up e) (down e) (p .g) (lit< tt) (p .value .1) (p .capped)

@@ -10,7 +10,7 @@ use lib.Dec.{lit≤}
 use lib.IntN.{ℤ, pos, negsuc}
 use lib.Ieee.{nan, inf, fin, ofBits}
 use Rattle.gains.specs.declared.GainsAnswer.{GainsAnswer}
-use Rattle.gains.specs.Within.{Within}
+use Rattle.gains.specs.Within.{Within, AtMost1}
 use Rattle.gains.specs.Gains.{weight, Weighs, Near, numberFor, gainsNumber, gainsIn, Answered}
 
 -- ---- one half, beside fractions that are exactly a millionth and a little more away
@@ -36,21 +36,31 @@ no-nan M a c w = w
 pub no-infinity : (M a c : ℕ) → Within M (inf false) a c → ⊥
 no-infinity M a c w = w
 
+-- 1 is not above 1, and what is next to it is
+pub one-at-most-1 : AtMost1 (fin false 1 (pos 0))
+one-at-most-1 = lit≤ tt
+
+pub next-above-1 : AtMost1 (fin false 8388609 (negsuc 22)) → ⊥
+next-above-1 h = let k : 8388609 ≤ 8388608 = h in omega arith
+
 -- ---- calls: 260144641 is 127 to the power 4
 
 -- full level at pan 64, the centre: weight 63 on both sides
 pub centre : (a : GainsAnswer) → Answered 127 127 64 a
     → Within 1000000 (gainsIn a .left) (260144641 * 23170) (260144641 * 32768) × Within 1000000 (gainsIn a .right) (260144641 * 23170) (260144641 * 32768)
 unfolding weight
-centre a h = h .1
+centre a h = (h .1 .0 .0, h .1 .1 .0)
 
 -- half the expression and a third of the volume, full right: 64 squared times 42 squared, and nothing on the left
 pub quiet-and-right : (a : GainsAnswer) → Answered 64 42 127 a
     → Within 1000000 (gainsIn a .left) 0 (260144641 * 32768) × Within 1000000 (gainsIn a .right) (4096 * 1764 * 32768) (260144641 * 32768)
 unfolding weight
-quiet-and-right a h = h .1
+quiet-and-right a h = (h .1 .0 .0, h .1 .1 .0)
 
--- 0 has no place of its own, and at full left nothing is heard on the right
+pub never-louder : (a : GainsAnswer) → Answered 127 127 127 a → AtMost1 (gainsIn a .right)
+never-louder a h = h .1 .1 .1
+
+-- pan 0 has no place of its own
 pub pan-0-as-1 : (a : GainsAnswer) → Answered 127 127 0 a → Answered 127 127 1 a
 pan-0-as-1 a h = h
 

@@ -13,7 +13,7 @@ use Rattle.channels.specs.declared.Channel.{Channel}
 use Rattle.gains.specs.declared.Gains.{Gains}
 use Rattle.gains.specs.declared.GainsAnswer.{GainsAnswer}
 use Rattle.gains.specs.declared.GainsAnswer.the-variants.{GainsAre, OutOfRange}
-use Rattle.gains.specs.Within.{Within}
+use Rattle.gains.specs.Within.{Within, AtMost1}
 
 -- the 127 weights, each "nearest to 32768 × sin(pi × p / 252)": no proof speaks of a sine, so that a test program compares them (rust/tests/gains.rs)
 abbrev pub weights : List ℕ
@@ -44,9 +44,10 @@ pub record Weighs (W : ℕ → ℕ) : Type 0 where
 abbrev pub panned : ℕ → ℕ
 panned p = p - 1
 
--- the exact fraction is (e / 127) squared, times (v / 127) squared, times w / 32768; the gain x is "within one millionth" of it
+-- the exact fraction is (e / 127) squared, times (v / 127) squared, times w / 32768; the gain x is "within one millionth" of it and, more than the paper asks, not above 1, so that no
+-- sample grows
 abbrev pub Near : ℕ → ℕ → ℕ → Float → Type 0
-Near e v w x = Within 1000000 x (e * e * (v * v) * w) (127 * 127 * (127 * 127) * 32768)
+Near e v w x = Within 1000000 x (e * e * (v * v) * w) (127 * 127 * (127 * 127) * 32768) × AtMost1 x
 
 -- number 24: "any of the three above 127"
 abbrev pub isOut : ℕ → ℕ → ℕ → Bool

@@ -1,4 +1,4 @@
--- A float that is near a fraction, said over whole numbers.
+-- A float that is near a fraction, and one that is at most 1, said over whole numbers.
 -- Assumes nothing.
 use mathlib.Core.Path.{_≡_}
 use mathlib.Core.Bool.{false}
@@ -11,3 +11,8 @@ abbrev pub Within : ℕ → Float → ℕ → ℕ → Type 0
 Within M nan a c = ⊥
 Within M (inf s) a c = ⊥
 Within M (fin s m e) a c = (s ≡ false) × (m * up e * c * M ≤ (a * M + c) * down e) × (a * M * down e ≤ (m * up e * M + down e) * c)
+
+abbrev pub AtMost1 : Float → Type 0
+AtMost1 nan = ⊥
+AtMost1 (inf s) = ⊥
+AtMost1 (fin s m e) = m * up e ≤ down e

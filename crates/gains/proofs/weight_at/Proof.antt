@@ -18,8 +18,11 @@ told p s h e = let w = weight-in p s h e in (w, subst (λ (n : ℕ). n ≤ 32768
 past : (n s : ℕ) → n ≤ s → (s ≡ n → ⊥) → suc n ≤ s
 past n s l h = omega (arith, h)
 
-left : (s : ℕ) → (s ≡ 0 → ⊥) → (s ≡ 1 → ⊥) → (s ≡ 2 → ⊥) → (s ≡ 3 → ⊥) → (s ≡ 4 → ⊥) → (s ≡ 5 → ⊥) → (s ≡ 6 → ⊥) → 7 ≤ s
-left s a b c d e f g = past 6 s (past 5 s (past 4 s (past 3 s (past 2 s (past 1 s (past 0 s (omega arith) a) b) c) d) e) f) g
+last : (p : ℕ) → p < 127 → (p / 16 ≡ 0 → ⊥) → (p / 16 ≡ 1 → ⊥) → (p / 16 ≡ 2 → ⊥) → (p / 16 ≡ 3 → ⊥) → (p / 16 ≡ 4 → ⊥) → (p / 16 ≡ 5 → ⊥) → (p / 16 ≡ 6 → ⊥) → p / 16 ≡ 7
+last p h a b c d e f g =
+    let s = p / 16 in
+    let l = past 6 s (past 5 s (past 4 s (past 3 s (past 2 s (past 1 s (past 0 s (omega arith) a) b) c) d) e) f) g in
+    omega (arith, h, l)
 
 cast-at : tie.Need-cast-at
 cast-at c = search needs
@@ -71,10 +74,10 @@ mul-result-8 c = search needs
 
 array-read-result-8 : tie.Need-array-read-result-8
 array-read-result-8 c =
-    let r = c .match .rest in
     let p = c .before .args .p in
+    let r = c .match .rest in
     let h : p < 127 = search needs in
-    let l = left (p / 16) (r .0 .0 .0 .0 .0 .0 .1) (r .0 .0 .0 .0 .0 .1) (r .0 .0 .0 .0 .1) (r .0 .0 .0 .1) (r .0 .0 .1) (r .0 .1) (r .1) in
+    let l = last p h (r .0 .0 .0 .0 .0 .0 .1) (r .0 .0 .0 .0 .0 .1) (r .0 .0 .0 .0 .1) (r .0 .0 .0 .1) (r .0 .0 .1) (r .0 .1) (r .1) in
     omega (arith, h, l)
 
 returns : tie.Need-returns
@@ -100,11 +103,11 @@ returns-7 c = told (c .before .args .p) 6 (search needs) (c .match .keys7)
 
 returns-8 : tie.Need-returns-8
 returns-8 c =
-    let r = c .match .rest in
     let p = c .before .args .p in
+    let r = c .match .rest in
     let h : p < 127 = search needs in
-    let l = left (p / 16) (r .0 .0 .0 .0 .0 .0 .1) (r .0 .0 .0 .0 .0 .1) (r .0 .0 .0 .0 .1) (r .0 .0 .0 .1) (r .0 .0 .1) (r .0 .1) (r .1) in
-    told p 7 h (omega (arith, h, l))
+    let l = last p h (r .0 .0 .0 .0 .0 .0 .1) (r .0 .0 .0 .0 .0 .1) (r .0 .0 .0 .0 .1) (r .0 .0 .0 .1) (r .0 .0 .1) (r .0 .1) (r .1) in
+    told p 7 h l
 
 pub weight-at-spec : {M : Type 1} → statement M
 weight-at-spec =
