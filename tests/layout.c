@@ -336,6 +336,29 @@ static void pitches(void)
     check(a.entry == 103657 && a.octave == 4 && a.number == 0, "the pitch of a note by its channel's record");
 }
 
+/*
+ * The fields of a gains answer, each with a value of its own: at full level, pan 43, the weights are 28378 and 16384 of 32768. Then the gains of a channel as a driver asks for them
+ * (README.md), after its volume, pan and expression were sent; and refused ones, of a copy of the channel.
+ */
+static void gains(void)
+{
+    struct muntinorris_gains_answer a = muntinorris_gains(127, 127, 43);
+    struct muntinorris_channel c;
+
+    check(a.left == 28378.0f / 32768 && a.right == 16384.0f / 32768 && a.number == 0, "the weights of pan 43");
+    a = muntinorris_gains(127, 127, 1);
+    check(a.left == 1 && a.right == 0 && a.number == 0, "full left");
+    a = muntinorris_gains(127, 128, 1);
+    check(a.left == 0 && a.right == 0 && a.number == MUNTINORRIS_BAD_LEVEL, "number 24");
+    PLAY(4, 0xB2, 7, 64, 10, 127, 11, 96);
+    a = muntinorris_channel_gains(&device->instrument.channels[3 - 1]);
+    check(a.left == 0 && a.right > 0.145105f && a.right < 0.145108f && a.number == 0, "the gains of a channel by its record");
+    c = device->instrument.channels[3 - 1];
+    c.pan = 128;
+    a = muntinorris_channel_gains(&c);
+    check(a.left == 0 && a.right == 0 && a.number == MUNTINORRIS_BAD_LEVEL, "number 24 for a channel's numbers");
+}
+
 /* Of each struct its size, then of each field its place and size; the fields must fill it, so that none is left out here. */
 static size_t unlisted;
 #define STRUCT(s) (check(unlisted == 0, "every field of the struct before " #s " is listed"), unlisted = sizeof(struct muntinorris_##s), line("%s %u\n", #s, (unsigned)unlisted))
@@ -371,6 +394,7 @@ static void layout(void)
     STRUCT(mask_answer), FIELD(mask_answer, number), FIELD(mask_answer, masked);
     STRUCT(share_answer), FIELD(share_answer, number), FIELD(share_answer, share);
     STRUCT(pitch_answer), FIELD(pitch_answer, entry), FIELD(pitch_answer, octave), FIELD(pitch_answer, number), unlisted -= 2; /* padding */
+    STRUCT(gains_answer), FIELD(gains_answer, left), FIELD(gains_answer, right), FIELD(gains_answer, number), unlisted -= 3; /* padding */
     check(unlisted == 0, "every field of the last struct is listed");
 }
 
@@ -389,6 +413,7 @@ int main(int argc, char **argv)
     ages_and_id();
     numbers();
     pitches();
+    gains();
     if (failures == 0)
         printf("the record of %u bytes is the library's\n", (unsigned)sizeof(struct muntinorris_device));
     return failures != 0;

@@ -1,7 +1,7 @@
 /*
  * A library that is wrong in one place: the proved one, whose functions are renamed to right_.., with one byte of what it gives or leaves changed. tests/faults links
  * it where the proved one belongs and sees the differential test fail. The environment says where: WRONG is one of the words below, AT the byte of it, BY what is added to the
- * byte, 1 if it is not said.
+ * byte, 1 if it is not said. With the word `weight` it is the weight at place AT of the pan to which BY is added, and the test of the weights must fail.
  */
 #include <stdlib.h>
 #include <string.h>
@@ -116,11 +116,23 @@ struct muntinorris_pitch_answer muntinorris_pitch(uint8_t key, uint8_t sensitivi
     return a;
 }
 
+/* What another weight at one place of the table makes of a gain. */
+static void weigh(struct muntinorris_gains_answer *a, uint8_t expression, uint8_t volume, uint8_t pan)
+{
+    double level = (double)expression * expression * volume * volume / (127.0 * 127 * 127 * 127);
+    int at = atoi(getenv("AT")), place = pan ? pan - 1 : 0;
+
+    a->left += at == 126 - place ? level * atoi(getenv("BY")) / 32768 : 0;
+    a->right += at == place ? level * atoi(getenv("BY")) / 32768 : 0;
+}
+
 /* As a pitch. */
 struct muntinorris_gains_answer muntinorris_gains(uint8_t expression, uint8_t volume, uint8_t pan)
 {
     struct muntinorris_gains_answer a = right_gains(expression, volume, pan);
 
+    if (a.number == 0 && is_meant("weight"))
+        weigh(&a, expression, volume, pan);
     if (is_meant(a.number == 0 ? "gains" : "refused gains"))
         change(&a);
     return a;
