@@ -14,7 +14,7 @@
  *
  * Channels are 1 to 16, as musicians count them; the wire carries channel minus 1. "Document 01" is the specification, "The note allocator of a scalable
  * polyphony module", "document 02" the changes to it that were asked for. Every call is proved to give exactly the answer and the record of its definition, for
- * every input.
+ * every input; of gains, which are floats, an answer within the definition's bound.
  */
 #ifndef MUNTINORRIS_H
 #define MUNTINORRIS_H

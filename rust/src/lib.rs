@@ -1,6 +1,6 @@
 //! Safe Rust over Muntinorris, the note allocator of a scalable polyphony module (document 01). Each call is proved, in the library, to give exactly the
-//! answer and the record of its definition, for every value of the record; what is trusted here is that the structs below are those of include/muntinorris.h,
-//! which the repository's tests hold against the library.
+//! answer and the record of its definition, for every value of the record, gains to within a millionth; what is trusted here is that the structs below are those of
+//! include/muntinorris.h, which the repository's tests hold against the library.
 //!
 //! ```
 //! use muntinorris::{Answer, Device, Was};
