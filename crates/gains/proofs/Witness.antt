@@ -9,9 +9,10 @@ use native.Mathlib.Omega.{arith}
 use lib.Dec.{lit≤}
 use lib.IntN.{ℤ, pos, negsuc}
 use lib.Ieee.{nan, inf, fin, ofBits}
+use Rattle.channels.specs.declared.Channel.{Channel}
 use Rattle.gains.specs.declared.GainsAnswer.{GainsAnswer}
 use Rattle.gains.specs.Within.{Within, AtMost1}
-use Rattle.gains.specs.Gains.{weight, Weighs, Near, numberFor, gainsNumber, gainsIn, Answered}
+use Rattle.gains.specs.Gains.{weight, Weighs, Near, numberFor, gainsNumber, gainsIn, Answered, AnsweredOf}
 
 -- ---- one half, beside fractions that are exactly a millionth and a little more away
 
@@ -73,6 +74,10 @@ refused a h = h .0
 pub refused-silent : (a : GainsAnswer) → Answered 0 0 128 a → gainsIn a ≡ record { left = fin false 0 (pos 0); right = fin false 0 (pos 0) }
 unfolding ofBits
 refused-silent a h = h .1
+
+-- a channel is answered by its own expression, volume and pan
+pub of-a-channel : (c : Channel) (a : GainsAnswer) → AnsweredOf c a → Answered (c .expression) (c .volume) (c .pan) a
+of-a-channel c a h = h
 
 -- ---- the laws of a table, of any table
 

@@ -31,7 +31,7 @@ weights =
 unfoldable pub weight : ℕ → ℕ
 weight p = getD weights p 0
 
--- what is proved of the table, whatever numbers it holds: it "rises strictly from W(0) = 0 to W(126) = 32768", and "W(p) squared plus W(126 − p) squared lies within 46,342 of
+-- what is proved of the table: it "rises strictly from W(0) = 0 to W(126) = 32768", and "W(p) squared plus W(126 − p) squared lies within 46,342 of
 -- 1,073,741,824 for each p", so that no place of the pan is louder than another by more than that
 pub record Weighs (W : ℕ → ℕ) : Type 0 where
   pub first : W 0 ≡ 0

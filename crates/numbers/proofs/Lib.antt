@@ -1,0 +1,2 @@
+-- What the words of the contracts mean.
+pub mod Witness
