@@ -50,13 +50,17 @@ pub at-most : (p : ℕ) → p < 127 → weight p ≤ 32768
 unfolding weight rises?
 at-most p h = let w = getD weights p 0 in leb→le w 32768 (both-right (ltb w (next p)) (leb w 32768) (risen p h))
 
+placed : (p : ℕ) → p < 127 → getD weights p 0 ≡ getD (row (p / 16)) (p % 16) 0
+unfolding right placed?
+placed p h = let w = getD weights p 0 in eqb→eq _ _ (both-right (both (rises? p w) (near? p w)) (placed? p w) (swept p h))
+
 -- a weight, by its row
-pub weight-in : (p s : ℕ) → p < 127 → p / 16 ≡ s → getD (row s) (p % 16) 0 ≡ weight p
-unfolding weight right placed?
-weight-in p s h e =
-    let w = getD weights p 0 in
-    let t = eqb→eq _ _ (both-right (both (rises? p w) (near? p w)) (placed? p w) (swept p h)) in
-    sym (t ∙ ap (λ (x : ℕ). getD (row x) (p % 16) 0) e)
+pub in-row : (s j : ℕ) → j < 16 → 16 * s + j < 127 → getD (row s) j 0 ≡ weight (16 * s + j)
+unfolding weight
+in-row s j l h =
+    let quotient : (16 * s + j) / 16 ≡ s = omega (arith, l) in
+    let rest : (16 * s + j) % 16 ≡ j = omega (arith, l) in
+    sym (placed (16 * s + j) h ∙ ap (λ (x : ℕ). getD (row x) ((16 * s + j) % 16) 0) quotient ∙ ap (λ (x : ℕ). getD (row s) x 0) rest)
 
 below-next : (p : ℕ) → p < 126 → weight p < weight (suc p)
 unfolding weight rises?

@@ -1,7 +1,7 @@
 // The gains left and right of a channel (document 02, ticket 13), for every expression, volume and pan: products of f32 quotients, each with the bound of its rounding.
 // Assumes nothing.
 ghost use mathlib.Core.Path.{_≡_};
-ghost use Prim.Native.Nat.{_≤_, _<_, _-_};
+ghost use Prim.Native.Nat.{_≤_, _<_, _+_, _-_, _*_};
 ghost use Rattle.gains.specs.Gains.{weight, panned, Near, Answered, AnsweredOf};
 use channels::Channel;
 
@@ -171,22 +171,30 @@ const ROW_7: [u16; 15] = [
     32768,
 ];
 
+// A weight by its row. Apart from `weight_at`, so that the compiler puts this into it and gives all rows one place on the stack.
+fn weight_in(row: u8, at: u8) -> u16
+    requires { ⌜ (at < 16) × (16 * row + at < 127) ⌝ }
+    ensures { λ r. ⌜ r ≡ weight (16 * row + at) ⌝ }
+{
+    let i = at as usize;
+    match row {
+        0 => ROW_0[i],
+        1 => ROW_1[i],
+        2 => ROW_2[i],
+        3 => ROW_3[i],
+        4 => ROW_4[i],
+        5 => ROW_5[i],
+        6 => ROW_6[i],
+        _ => ROW_7[i],
+    }
+}
+
 // The weight at a place, 0 to 126.
 fn weight_at(p: u8) -> u16
     requires { ⌜ p < 127 ⌝ }
     ensures { λ r. ⌜ (r ≡ weight p) × (r ≤ 32768) ⌝ }
 {
-    let at = (p % 16) as usize;
-    match p / 16 {
-        0 => ROW_0[at],
-        1 => ROW_1[at],
-        2 => ROW_2[at],
-        3 => ROW_3[at],
-        4 => ROW_4[at],
-        5 => ROW_5[at],
-        6 => ROW_6[at],
-        _ => ROW_7[at],
-    }
+    weight_in(p / 16, p % 16)
 }
 
 // The place of a pan: 0 is a place with 1.
