@@ -197,7 +197,7 @@ fn weight_at(p: u8) -> u16
     weight_in(p / 16, p % 16)
 }
 
-// The place of a pan: 0 is a place with 1.
+// The place of a pan, 0 to 126: pans 0 and 1 share the first.
 fn place_of(pan: u8) -> u8
     requires { ⌜ pan < 128 ⌝ }
     ensures { λ r. ⌜ (r ≡ panned pan) × (r < 127) ⌝ }
@@ -205,7 +205,7 @@ fn place_of(pan: u8) -> u8
     if pan == 0 { 0 } else { pan - 1 }
 }
 
-// (e / 127) squared, times (v / 127) squared, times w / 32768.
+// (e / 127) squared, times (v / 127) squared, times w / 32768. 16129 is 127 squared.
 fn gain(e: u8, v: u8, w: u16) -> f32
     requires { ⌜ (e < 128) × (v < 128) × (w ≤ 32768) ⌝ }
     ensures { λ r. ⌜ Near e v w r ⌝ }
