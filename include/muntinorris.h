@@ -5,11 +5,11 @@
  * own, allocates nothing, keeps no pointer after a call returns, and writes nothing but the record that it is lent. A record may be copied by
  * assignment; the copy is a device of its own.
  *
- * Calls. muntinorris_start makes the record, whatever the memory held before. Every other call wants a record that a start made and that only these calls have
- * written since; on a record with other contents it still returns, and touches no memory but the record, but the answer means nothing. One record is used
- * by one thread at a time; two records never touch each other.
+ * Calls. muntinorris_start makes the record, whatever the memory held before. Every other call that is lent the record wants one that a start made and that only these
+ * calls have written since; on a record with other contents it still returns, and touches no memory but the record, but the answer means nothing. (A pitch, and gains by their
+ * numbers, need no record; the gains of a channel mean what they say for any eleven bytes.) One record is used by one thread at a time; two records never touch each other.
  *
- * A NULL or misaligned pointer, or one to less memory than a record, is the caller's error and is not tested for. (The record is made of bytes alone, so its
+ * A NULL or misaligned pointer, or one to less memory than the struct that is lent, is the caller's error and is not tested for. (The record is made of bytes alone, so its
  * alignment is 1 and every address is aligned for it.)
  *
  * Channels are 1 to 16, as musicians count them; the wire carries channel minus 1. "Document 01" is the specification, "The note allocator of a scalable
@@ -98,8 +98,9 @@ struct muntinorris_pitch_answer {
 };
 
 /*
- * The gains of a channel: what the mixer multiplies its samples by, left and right. Each is a number from 0 to 1, neither more nor -0, and within one millionth of the exact
- * fraction. number is 0, or 24 where the call was refused, and then both gains are 0. (Three bytes of padding behind number.)
+ * The gains of a channel: what the mixer multiplies its samples by, left and right. Each is a number from 0 to 1, neither more nor -0, within one millionth of the exact
+ * fraction, and 0 where that is 0. number is 0, or 24 where the call was refused, and then both gains are 0. The processor's rounding mode is taken to be the usual one, to the
+ * nearest. (Three bytes of padding behind number.)
  */
 struct muntinorris_gains_answer {
     float left;
@@ -205,8 +206,8 @@ struct muntinorris_pitch_answer muntinorris_pitch(uint8_t key, uint8_t sensitivi
 
 /*
  * The gains of a channel with this expression, volume and pan, each 0 to 127: (expression / 127) squared, times (volume / 127) squared, times the weight of the pan. Pan 0 and 1 are
- * full left (gains 1 and 0 at full level), 64 is the centre (0.70709 each), 127 full right; the squares of the two weights come to 1, to 5 parts in 100,000. It is lent nothing and
- * needs no start. Number 24 where one of the three is above 127.
+ * full left (at full level 1, to a millionth, and 0), 64 is the centre (0.70709 each), 127 full right; the squares of the two weights come to 1, to 5 parts in 100,000. It is lent
+ * nothing and needs no start. Number 24 where one of the three is above 127.
  */
 struct muntinorris_gains_answer muntinorris_gains(uint8_t expression, uint8_t volume, uint8_t pan);
 

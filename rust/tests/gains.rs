@@ -1,8 +1,8 @@
-//! Gains over the library. Its weights are read back, and each is held against the sine, of which no proof speaks, with more digits than an f64 has. Then every gain of every call is
-//! held against its exact fraction, and a channel of the record against the call by its numbers.
+//! Gains over the library. Its weights are read back, and each is held against the sine, of which no proof speaks, with more digits than an f64 has. Then every gain of every accepted
+//! call is held against its exact fraction, and a channel of the record against the call by its numbers.
 use muntinorris::{gains, Device, Gains, Refused};
 
-/// Fixed point: 60 bits behind the point, and no float anywhere.
+/// Fixed point: 60 bits behind the point. No float has a part in the sine.
 const ONE: i128 = 1 << 60;
 /// Pi, cut off behind its last bit.
 const PI: i128 = 3622009729038561421;
@@ -69,7 +69,7 @@ fn pan_0_and_1_are_alike_and_left_mirrors_right() {
         assert_eq!((weight(g.left), weight(g.right)), (w[126 - p], w[p]), "{pan}");
     }
     assert_eq!(gains(127, 127, 0), gains(127, 127, 1));
-    assert_eq!(gains(127, 127, 0), Ok(Gains { left: 1.0, right: 0.0 }));
+    assert_eq!(gains(127, 127, 0), Ok(Gains { left: 1.0, right: 0.0 }), "1 to the last bit, which is more than the contract says");
 }
 
 #[test]

@@ -291,7 +291,7 @@ struct LentChannel {
     after: [u8; CHANNEL_GUARD],
 }
 
-/// The gains of a channel's numbers outside of a record. The call "changes nothing".
+/// The gains of a channel's numbers outside of a record. They are "read and not written".
 pub fn channel_gains(channel: Channel) -> Answered {
     let mut lent = LentChannel {
         before: [RUBBISH; CHANNEL_GUARD],

@@ -159,7 +159,7 @@ pub fn pitch(key: u8, sensitivity: u8, bend: u16) -> PitchAnswer {
     unsafe { muntinorris_pitch(key, sensitivity, bend) }
 }
 
-/// Another one.
+/// The gains by their three numbers, which want no record either.
 #[inline]
 pub fn gains(expression: u8, volume: u8, pan: u8) -> GainsAnswer {
     // SAFETY: as for `pitch`.

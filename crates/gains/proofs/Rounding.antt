@@ -3,25 +3,25 @@
 -- these values, three ten-millionths.
 -- Assumes nothing.
 use mathlib.Core.Path.{_≡_, refl, sym, ap, _∙_, subst}
-use mathlib.Core.Logic.{_⊎_, inl, inr, ⊎-elim}
+use mathlib.Core.Logic.{_⊎_, inl, inr}
 use mathlib.Core.Bool.{Bool, true, false, not, cond}
 use Prim.Native.Nat.{ℕ, zero, suc, _+_, _-_, _*_, _/_, _%_, _^_, _≤_, _<_, compare, Ordering, Ordering·lt, Ordering·eq, Ordering·gt}
-use native.Mathlib.Nat.{le-trans, le-of-eq, le-of-lt, lt-of-le-of-lt, mul-comm, mul-assoc, mul-left-comm, mul-mul-mul-comm, add-mul, mul-add, mul-pos, mul-le-mul, mul-le-mul-left, mul-le-mul-right, le-of-mul-le-mul-right, mul-lt-mul-of-pos-right, mod-lt, div-add-mod', div-lt-iff-lt-mul}
+use native.Mathlib.Nat.{le-trans, le-of-eq, lt-of-le-of-lt, mul-comm, mul-assoc, mul-left-comm, mul-mul-mul-comm, add-mul, zero-mul, mul-zero, suc-mul, mul-pos, mul-le-mul, mul-le-mul-left, mul-le-mul-right, le-of-mul-le-mul-right, mul-lt-mul-of-pos-right, mod-lt, div-add-mod', div-lt-iff-lt-mul}
 use native.Mathlib.Omega.{arith}
-use lib.Dec.{T, isLe, isEq, eqb, leb→le, nleb→lt, eqb→eq, eqb-refl, lit≤, lit<}
+use lib.Dec.{T, isLe, isEq, eqb, leb→le, nleb→lt, eqb→eq, eqb-refl, lit<}
 use lib.Arith.{lt-of-le-ne}
 use lib.Pow.{pow-pos, pow-mono, pow-add}
-use lib.Ieee.{Float, nan, inf, fin, Format, binary32, prec, low, up, down, size, nearest, round, mul, div, ofInt}
+use lib.Ieee.{Float, nan, inf, fin, binary32, up, down, size, nearest, round, mul, div, ofInt}
 use lib.Ieee.Digits.{size-le}
 use lib.Ieee.Fits.{up-pos, down-pos}
 use lib.IntN.{ℤ, pos as plus}
 use lib.Ieee.Exact.{HasValue}
 use lib.Ieee.Back.{round-whole}
 use lib.Ieee.Nearest.{closest, closest-mono}
-use lib.Ieee.Order.{drop, kept}
-use lib.Ieee.Scale.{grid, overflow, round-val, round-same}
-use Rattle.gains.specs.Within.{Within, AtMost1}
-use Rattle.gains.proofs.Frac.{Close, Product, product, rounded}
+use lib.Ieee.Order.{drop}
+use lib.Ieee.Scale.{grid, round-val, round-same}
+use Rattle.gains.specs.Within.{Within, AtMost1, Is0}
+use Rattle.gains.proofs.Frac.{Close, product, rounded}
 
 -- ---- what `compare` says
 abbrev Cmp : Ordering → ℕ → ℕ → Type 0
@@ -120,36 +120,53 @@ grid-capped a c pos h =
     let k = drop 24 (a * U) c in
     capped-by U a c k (2 ^ (149 - k)) pos h (sym (pow-add 2 (149 - k) k) ∙ ap (λ (n : ℕ). 2 ^ n) (rest k (few a c pos h)))
 
--- ---- x is near a / c: its value is some number of units, at most those of 1, that is within E units of a / c
+-- and 0 is rounded to 0
+no-more : (N a c k : ℕ) → 0 < c → a ≡ 0 → closest (a * N) (c * 2 ^ k) * 2 ^ k ≡ 0
+no-more N a c k pos e =
+    let none : a * N * 1 ≤ 0 * (c * 2 ^ k) = subst (λ (n : ℕ). n * N * 1 ≤ 0 * (c * 2 ^ k)) (sym e) (omega arith) in
+    let m : closest (a * N) (c * 2 ^ k) ≤ 0 = subst (λ (z : ℕ). closest (a * N) (c * 2 ^ k) ≤ z) (whole 0) (closest-mono (a * N) (c * 2 ^ k) 0 1 (mul-pos pos (pow-pos k)) (lit< tt) none) in
+    let z : closest (a * N) (c * 2 ^ k) ≡ 0 = omega (arith, m) in
+    ap (λ (n : ℕ). n * 2 ^ k) z ∙ zero-mul (2 ^ k)
+
+-- ---- x is near a / c: its value is some number of units, at most those of 1 and none where a is 0, that is within E units of a / c
 pub record CloseTo (x : Float) (a c E : ℕ) : Type 0 where
   pub g : ℕ
   pub value : HasValue x false g U
   pub capped : g ≤ U
+  pub silent : a ≡ 0 → g ≡ 0
   pub close : Close U g a c E
 
 pub round-close : (a c : ℕ) → 0 < c → a ≤ c → CloseTo (round binary32 false a c) a c H
 round-close a c pos h =
     let m = grid-capped a c pos h in
-    record { g = grid binary32 a c; value = round-val binary32 a c (lt-of-le-of-lt m (lit< tt)); capped = m; close = grid-close a c pos h }
+    record {
+      g = grid binary32 a c;
+      value = round-val binary32 a c (lt-of-le-of-lt m (lit< tt));
+      capped = m;
+      silent = no-more U a c (drop 24 (a * U) c) pos;
+      close = grid-close a c pos h;
+    }
 
 -- ---- an operation's result is its exact result, rounded, by any fractions that its operands equal
+not-both : true ≡ false → ⊥
+not-both p = subst (λ (b : Bool). T b) p tt
+
 mul-at : (x y : Float) (a c b d : ℕ) → 0 < c → 0 < d → HasValue x false a c → HasValue y false b d → mul binary32 x y ≡ round binary32 false (a * b) (c * d)
 unfolding mul
 mul-at nan y a c b d C D h k = absurd h
 mul-at (inf s) y a c b d C D h k = absurd h
 mul-at (fin s m e) nan a c b d C D h k = absurd k
 mul-at (fin s m e) (inf t) a c b d C D h k = absurd k
-mul-at (fin true m e) (fin t n f) a c b d C D h k = let z : true ≡ false = h .0 in absurd (no z)
-  where
-    no : true ≡ false → ⊥
-    no p = subst (λ (b : Bool). T b) p tt
-mul-at (fin false m e) (fin true n f) a c b d C D h k = let z : true ≡ false = k .0 in absurd (no z)
-  where
-    no : true ≡ false → ⊥
-    no p = subst (λ (b : Bool). T b) p tt
+mul-at (fin true m e) (fin t n f) a c b d C D h k = let z : true ≡ false = h .0 in absurd (not-both z)
+mul-at (fin false m e) (fin true n f) a c b d C D h k = let z : true ≡ false = k .0 in absurd (not-both z)
 mul-at (fin false m e) (fin false n f) a c b d C D h k =
     round-same binary32 false (m * up e * (n * up f)) (down e * down f) (a * b) (c * d) (mul-pos (down-pos e) (down-pos f)) (mul-pos C D)
     (mul-mul-mul-comm (m * up e) (n * up f) c d ∙ ap (λ (z : ℕ). z * (n * up f * d)) (h .1) ∙ ap (λ (z : ℕ). a * down e * z) (k .1) ∙ mul-mul-mul-comm a (down e) b (down f))
+
+-- a product is 0 where a factor is
+either-0 : (a b g h : ℕ) → (a ≡ 0 → g ≡ 0) → (b ≡ 0 → h ≡ 0) → a * b ≡ 0 → g * h ≡ 0
+either-0 zero b g h p q e = ap (λ (n : ℕ). n * h) (p refl) ∙ zero-mul h
+either-0 (suc a) b g h p q e = ap (λ (n : ℕ). g * n) (q (let s : suc a * b ≡ a * b + b = suc-mul a b in omega arith)) ∙ mul-zero g
 
 pub mul-close : (x y : Float) (a c E b d F : ℕ) → 0 < c → 0 < d → a ≤ c → b ≤ d → CloseTo x a c E → CloseTo y b d F → CloseTo (mul binary32 x y) (a * b) (c * d) (E + F + H)
 mul-close x y a c E b d F C D A B p q =
@@ -161,6 +178,7 @@ mul-close x y a c E b d F C D A B p q =
       g = r .g;
       value = r .value;
       capped = r .capped;
+      silent = λ e. r .silent (either-0 a b g h (p .silent) (q .silent) e);
       close = rounded U (g * h) (a * b) (c * d) (E + F) (r .g) H (lit< tt) (product U a c E g b d F h A (p .capped) B (q .capped) (p .close) (q .close)) (r .close);
     })
 
@@ -169,10 +187,7 @@ div-at : (x : Float) (n f m : ℕ) (e : ℤ) → HasValue x false n 1 → T (not
 unfolding div
 div-at nan n f m e h nz F k = absurd h
 div-at (inf s) n f m e h nz F k = absurd h
-div-at (fin true l d) n f m e h nz F k = let z : true ≡ false = h .0 in absurd (no z)
-  where
-    no : true ≡ false → ⊥
-    no p = subst (λ (b : Bool). T b) p tt
+div-at (fin true l d) n f m e h nz F k = let z : true ≡ false = h .0 in absurd (not-both z)
 div-at (fin false l d) n f m e h nz F k = go (eqb m 0) nz
   where
     whole : l * up d * down e * f ≡ n * (m * up e * down d)
@@ -238,3 +253,15 @@ pub at-most-1 : (x : Float) (a c E : ℕ) → CloseTo x a c E → AtMost1 x
 at-most-1 nan a c E p = absurd (p .value)
 at-most-1 (inf s) a c E p = absurd (p .value)
 at-most-1 (fin s m e) a c E p = not-above U m (up e) (down e) (p .g) (lit< tt) (p .value .1) (p .capped)
+
+no-digits : (N m u w g : ℕ) → 0 < N → 0 < u → m * u * N ≡ g * w → g ≡ 0 → m ≡ 0
+no-digits N zero u w g pos up e z = refl
+no-digits N (suc m) u w g pos up e z =
+    let n : suc m * u * N ≡ 0 = e ∙ ap (λ (n : ℕ). n * w) z ∙ zero-mul w in
+    let p : 0 < suc m * u * N = mul-pos (mul-pos (omega arith) up) pos in
+    absurd (omega arith)
+
+pub is-0 : (x : Float) (a c E : ℕ) → CloseTo x a c E → a ≡ 0 → Is0 x
+is-0 nan a c E p e = absurd (p .value)
+is-0 (inf s) a c E p e = absurd (p .value)
+is-0 (fin s m k) a c E p e = no-digits U m (up k) (down k) (p .g) (lit< tt) (up-pos k) (p .value .1) (p .silent e)

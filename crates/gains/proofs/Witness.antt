@@ -1,18 +1,18 @@
 -- The words of the contract bite. First a float that is near a fraction, and those that are not; then what a call promises where a hand can check it; then what the laws of a table say of any table.
 -- A definition loosened behind its name would not give these facts.
 -- Assumes nothing.
-use mathlib.Core.Path.{_≡_, refl, sym, subst}
+use mathlib.Core.Path.{_≡_, refl}
 use mathlib.Core.Bool.{true, false}
 use mathlib.Core.Option.{some, none}
-use Prim.Native.Nat.{ℕ, _+_, _*_, _≤_, _<_}
+use Prim.Native.Nat.{ℕ, suc, _+_, _-_, _*_, _≤_, _<_}
 use native.Mathlib.Omega.{arith}
 use lib.Dec.{lit≤}
 use lib.IntN.{ℤ, pos, negsuc}
 use lib.Ieee.{nan, inf, fin, ofBits}
 use Rattle.channels.specs.declared.Channel.{Channel}
 use Rattle.gains.specs.declared.GainsAnswer.{GainsAnswer}
-use Rattle.gains.specs.Within.{Within, AtMost1}
-use Rattle.gains.specs.Gains.{weight, Weighs, Near, numberFor, gainsNumber, gainsIn, Answered, AnsweredOf}
+use Rattle.gains.specs.Within.{Within, AtMost1, Is0}
+use Rattle.gains.specs.Gains.{weight, Weighs, gainsNumber, gainsIn, Answered, AnsweredOf}
 
 -- ---- one half, beside fractions that are exactly a millionth and a little more away
 
@@ -44,6 +44,10 @@ one-at-most-1 = lit≤ tt
 pub next-above-1 : AtMost1 (fin false 8388609 (negsuc 22)) → ⊥
 next-above-1 h = let k : 8388609 ≤ 8388608 = h in omega arith
 
+-- the smallest float is not 0
+pub least-not-0 : Is0 (fin false 1 (negsuc 148)) → ⊥
+least-not-0 h = let k : _≡_ {A = ℕ} 1 0 = h in omega arith
+
 -- ---- calls: 260144641 is 127 to the power 4
 
 -- full level at pan 64, the centre: weight 63 on both sides
@@ -58,8 +62,17 @@ pub quiet-and-right : (a : GainsAnswer) → Answered 64 42 127 a
 unfolding weight
 quiet-and-right a h = (h .1 .0 .0, h .1 .1 .0)
 
-pub never-louder : (a : GainsAnswer) → Answered 127 127 127 a → AtMost1 (gainsIn a .right)
-never-louder a h = h .1 .1 .1
+pub never-louder : (a : GainsAnswer) → Answered 127 127 1 a → AtMost1 (gainsIn a .left) × AtMost1 (gainsIn a .right)
+never-louder a h = (h .1 .0 .1, h .1 .1 .1)
+
+-- at full left nothing is heard on the right, and with volume 0 nothing on either side
+pub silent-right : (a : GainsAnswer) → Answered 127 127 1 a → Is0 (gainsIn a .right)
+unfolding weight
+silent-right a h = h .1 .1 .2 refl
+
+pub silent-both : (a : GainsAnswer) → Answered 127 0 64 a → Is0 (gainsIn a .left) × Is0 (gainsIn a .right)
+unfolding weight
+silent-both a h = (h .1 .0 .2 refl, h .1 .1 .2 refl)
 
 -- pan 0 has no place of its own
 pub pan-0-as-1 : (a : GainsAnswer) → Answered 127 127 0 a → Answered 127 127 1 a
@@ -85,15 +98,11 @@ module _ (W : ℕ → ℕ) (w : Weighs W) where
   pub first-and-last : (W 0 ≡ 0) × (W 126 ≡ 32768)
   first-and-last = (w .first, w .last)
 
-  pub first-step : W 0 < W 1
-  first-step = w .rises 0 (omega arith)
+  pub every-step : (p : ℕ) → p < 126 → W p < W (suc p)
+  every-step p h = w .rises p h
 
-  pub last-step : W 125 < W 126
-  last-step = w .rises 125 (omega arith)
+  pub nowhere-louder : (p : ℕ) → p < 127 → W p * W p + W (126 - p) * W (126 - p) ≤ 1073788166
+  nowhere-louder p h = w .not-over p h
 
-  -- the middle weight is W(63), and its double square is as near to 32768 squared as the paper says
-  pub middle-not-louder : W 63 * W 63 + W 63 * W 63 ≤ 1073788166
-  middle-not-louder = w .not-over 63 (omega arith)
-
-  pub middle-not-quieter : 1073741824 ≤ W 63 * W 63 + W 63 * W 63 + 46342
-  middle-not-quieter = w .not-under 63 (omega arith)
+  pub nowhere-softer : (p : ℕ) → p < 127 → 1073741824 ≤ W p * W p + W (126 - p) * W (126 - p) + 46342
+  nowhere-softer p h = w .not-under p h

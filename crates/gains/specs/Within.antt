@@ -1,4 +1,4 @@
--- A float that is near a fraction, and one that is at most 1, said over whole numbers.
+-- A float that is near a fraction, one that is at most 1 and one that is 0, said over whole numbers.
 -- Assumes nothing.
 use mathlib.Core.Path.{_≡_}
 use mathlib.Core.Bool.{false}
@@ -16,3 +16,8 @@ abbrev pub AtMost1 : Float → Type 0
 AtMost1 nan = ⊥
 AtMost1 (inf s) = ⊥
 AtMost1 (fin s m e) = m * up e ≤ down e
+
+abbrev pub Is0 : Float → Type 0
+Is0 nan = ⊥
+Is0 (inf s) = ⊥
+Is0 (fin s m e) = m ≡ 0

@@ -37,6 +37,10 @@ levels-in-range c r = simp (le-ltb _ _ (r .expression), le-ltb _ _ (r .volume), 
 pub bend-below-16384 : (c : Channel) → InRange c → (c .sensitivity < 25) × (128 * c .«bend_msb» + c .«bend_lsb» < 16384)
 bend-below-16384 c r = omega arith
 
+-- those that neither levels nor pitch ask for
+pub others-in-range : (c : Channel) → InRange c → (c .program ≤ 127) × (c .modulation ≤ 127) × (c .hold ≤ 127) × (c .«rpn_msb» ≤ 127) × (c .«rpn_lsb» ≤ 127)
+others-in-range c r = (r .program, r .modulation, r .hold, r .«rpn_msb», r .«rpn_lsb»)
+
 pub last-channel-too : (d : Device) → AllInRange d → InRange (channelOf (d .instrument) 16)
 last-channel-too d a = a .each 16 (omega arith) (omega arith)
 
@@ -57,8 +61,8 @@ module _ (p id : ℕ) (l : List Event) (c : ℕ) (lo : 1 ≤ c) (hi : c ≤ 16) 
   pub levels-never-refused : numberFor (now .expression) (now .volume) (now .pan) ≡ none
   levels-never-refused = levels-in-range now (always-in-range p id l .each c lo hi)
 
-  pub pitch-never-refused : (now .sensitivity < 25) × (128 * now .«bend_msb» + now .«bend_lsb» < 16384)
-  pitch-never-refused = bend-below-16384 now (always-in-range p id l .each c lo hi)
+  pub bend-in-range : (now .sensitivity < 25) × (128 * now .«bend_msb» + now .«bend_lsb» < 16384)
+  bend-in-range = bend-below-16384 now (always-in-range p id l .each c lo hi)
 
 -- ---- every bound is reached
 

@@ -9,7 +9,7 @@ use lib.IntN.{pos}
 use lib.Ieee.{Float, binary32, mul, div, ofInt, ofBits}
 use borrow.Author.Needs.{needs}
 use Rattle.gains.specs.Gains.{Near}
-use Rattle.gains.proofs.Rounding.{H, CloseTo, quotient, mul-close, within, at-most-1}
+use Rattle.gains.proofs.Rounding.{H, CloseTo, quotient, mul-close, within, at-most-1, is-0}
 use Rattle.gains.proofs.gain.Statement.{statement}
 use Rattle.gains.proofs.gain.Tie as tie
 
@@ -36,7 +36,7 @@ gained : (e v w : ℕ) → e < 128 → v < 128 → w ≤ 32768 → Near e v w (m
 gained e v w he hv hw =
     let level = mul-close _ _ (e * e) 16129 H (v * v) 16129 H (lit< tt) (lit< tt) (square e he) (square v hv) (squared-close e he) (squared-close v hv) in
     let all = mul-close _ _ (e * e * (v * v)) (16129 * 16129) _ w 32768 H (lit< tt) (lit< tt) (mul-le-mul (square e he) (square v hv)) hw level (weighed-close w hw) in
-    (within _ _ (e * e * (v * v) * w) (16129 * 16129 * 32768) _ (lit≤ tt) all, at-most-1 _ _ _ _ all)
+    (within _ _ (e * e * (v * v) * w) (16129 * 16129 * 32768) _ (lit≤ tt) all, at-most-1 _ _ _ _ all, is-0 _ _ _ _ all)
 
 mul-e2 : tie.Need-mul-e2
 mul-e2 c = record { fits = lt-of-le-of-lt (square (c .args .e) (search needs)) (lit< tt) }

@@ -1,6 +1,6 @@
 -- `gains::weight_in` meets its contract: a row has its sixteen weights of the table, the last one fifteen (`Weights`).
 -- Assumes nothing.
-use mathlib.Core.Path.{_≡_, sym, subst}
+use mathlib.Core.Path.{_≡_, subst}
 use Prim.Native.Nat.{ℕ, suc, _+_, _*_, _≤_, _<_}
 use native.Mathlib.Omega.{arith}
 use lib.ListN.{getD}
