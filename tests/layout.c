@@ -337,9 +337,8 @@ static void pitches(void)
 }
 
 /*
- * The fields of a gains answer, each with a value of its own: at full level, pan 43, the weights are 28378 and 16384 of 32768 (exact here, which is more than the contract asks).
- * Then the gains of a channel as a driver asks for them
- * (README.md), after its volume, pan and expression were sent; and refused ones, of a copy of the channel.
+ * The fields of a gains answer, each with a value of its own: at full level, pan 43, the weights are 28378 and 16384 of 32768 (exact here, which is more than the contract
+ * asks). Then the gains of a channel as a driver asks for them (README.md), after its volume, pan and expression were sent; and refused ones, of a copy of the channel.
  */
 static void gains(void)
 {

@@ -6,7 +6,7 @@ use mathlib.Core.List.{List}
 use Prim.Native.Nat.{ℕ, suc, _+_, _-_, _*_, _/_, _%_, _≤_, _<_}
 use native.Mathlib.Omega.{arith}
 use lib.Dec.{T, eqb, leb, ltb, eqb→eq, leb→le, ltb→lt}
-use lib.ListN.{getD, take, drop}
+use lib.ListN.{length, getD, take, drop}
 use borrow.Author.Tests.{lt-ltb}
 use Rattle.loops.specs.Cases.{if_then_else_}
 use Rattle.loops.proofs.Sweep.{at, both, both-left, both-right}
@@ -76,6 +76,9 @@ over p h = let w = getD weights p 0 in leb→le _ _ (both-left (leb (squares p w
 under : (p : ℕ) → p < 127 → 1073741824 ≤ weight p * weight p + weight (126 - p) * weight (126 - p) + 46342
 unfolding weight near?
 under p h = let w = getD weights p 0 in leb→le _ _ (both-right (leb (squares p w) (1073741824 + 46342)) _ (nearby p h))
+
+pub as-many : length weights ≡ 127
+as-many = refl
 
 -- the table is as the paper says
 pub weighs : Weighs weight
