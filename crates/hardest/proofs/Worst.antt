@@ -20,7 +20,8 @@ use Rattle.generators.specs.Generators.{at, isIdle}
 use Rattle.silence.specs.declared.Leaving.the-variants as leaving
 use Rattle.silence.specs.Silence.{silenced}
 use Rattle.instrument.specs.Instrument.{fresh, withGenerators}
-use Rattle.playing.specs.Playing.{replied, played, liftsPedal, silencesAll, endsAll}
+use Rattle.other_messages.specs.OtherMessages.{liftsPedal, silencesAll, endsAll}
+use Rattle.playing.specs.Playing.{replied, played}
 use Rattle.reports.specs.Reports.{reported}
 use Rattle.device.specs.Device.{freshDevice, byteTaken}
 use Rattle.events.specs.declared.Event.the-variants.{Byte}
