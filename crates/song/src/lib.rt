@@ -68,8 +68,7 @@ pub fn write_song(polyphony: u8, n: usize, song: &mut [u8]) -> SongAnswer
     if (MOST_BYTES < n) | (song.len() < n) {
         return SongAnswer::TooLong;
     }
-    let o = device::start(polyphony, 0);
-    let mut d = o.device;
+    let mut d = device::start(polyphony, 0).device;
     let mut thefts: u32 = 0;
     let mut i = 0;
     while i < n {
@@ -77,9 +76,8 @@ pub fn write_song(polyphony: u8, n: usize, song: &mut [u8]) -> SongAnswer
         song[i] = b;
         let r = device::byte(d, b);
         let answer = r.answer;
-        let next = r.device;
         thefts += theft(answer);
-        d = next;
+        d = r.device;
         i += 1;
     }
     SongAnswer::Thefts(thefts)

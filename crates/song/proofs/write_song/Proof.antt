@@ -47,8 +47,8 @@ theft-requires c κs = search needs
 
 add-thefts : tie.Need-add-thefts Inv-loop μ-loop
 add-thefts c =
-    let l = c .before .before .before .before .before .loop in
-    let t = c .before .before .before .before .loop-test .taken in
+    let l = c .before .before .before .before .loop in
+    let t = c .before .before .before .loop-test .taken in
     let r = l .inv .few in
     let k = l .inv .less in
     let e = c .theft .ensures .1 in
@@ -67,7 +67,7 @@ loop-less c = search needs
 loop-again : tie.Need-loop-again Inv-loop μ-loop
 loop-again c =
     let l = c .before .before .before .before .before .loop in
-    turn-next _ _ _ _ _ _ _ (l .inv) (c .before .before .before .before .loop-test .taken) _ (c .before .before .before .song-byte .ensures) _ (c .before .before .byte .ensures) _ (c .theft .ensures .0)
+    turn-next _ _ _ _ _ _ _ (l .inv) (c .before .before .before .before .loop-test .taken) _ (c .before .before .before .song-byte .ensures) _ (c .before .before .byte .ensures) _ (c .before .theft .ensures .0)
 
 same-length : tie.Need-same-length Inv-loop μ-loop
 same-length c = c .before .loop .inv .same
