@@ -14,6 +14,8 @@
 //     K kk ss mm ll  the octave and entry of key kk with sensitivity ss and bend 128 × mm + ll
 //     L ee vv pp  the gains left and right with expression ee, volume vv and pan pp, to the nearest hundred-thousandth
 //     L cc        the same, by the numbers of channel cc
+//     H pp nn nn nn ll ll ll  the thefts of the hardest song for polyphony pp, of n bytes in a buffer of l bytes, each in three numbers, highest first; below it the
+//                 buffer, all FF before, where it has 1 to 64 bytes. l is at most 65,538
 //
 // A refused query answers its number only. Any other line is answered `malformed` and has no effect; an empty line has no answer. Before the first P the device
 // is one with P 1 and own ID 0. Assumes the contracts of the C library's read and write, and nothing else.
@@ -33,6 +35,7 @@ use pitch::PitchAnswer;
 use queries::GeneratorAnswer;
 use shares::MaskAnswer;
 use shares::ShareAnswer;
+use song::SongAnswer;
 use text::put;
 
 // What the next byte of a line may be.
@@ -387,6 +390,90 @@ fn put_levels_asked(page: &mut [u8], at: usize, numbers: [u8; 64]) -> usize {
     put_levels(page, at, numbers[0], numbers[1], numbers[2])
 }
 
+fn put_song(page: &mut [u8], at: usize, a: SongAnswer) -> usize {
+    match a {
+        SongAnswer::Thefts(t) => {
+            let k = put(page, at, b"song,");
+            let l = text::put_number(page, k, t as u64);
+            put(page, l, b"\n")
+        }
+        SongAnswer::WrongPolyphony => put_refused(page, at, 1),
+        SongAnswer::TooLong => put_refused(page, at, 25),
+    }
+}
+
+// The last hexadecimal digit of a number.
+fn put_hex_digit(page: &mut [u8], at: usize, n: u8) -> usize {
+    let d = n % 16;
+    if d < 10 {
+        return text::put_byte(page, at, b'0' + d);
+    }
+    text::put_byte(page, at, b'A' + (d - 10))
+}
+
+// A blank behind each byte but the last: before the one at i.
+fn put_gap(page: &mut [u8], at: usize, i: usize) -> usize {
+    if 0 < i {
+        return put(page, at, b" ");
+    }
+    at
+}
+
+fn put_hex(page: &mut [u8], at: usize, i: usize, b: u8) -> usize {
+    let k = put_gap(page, at, i);
+    let l = put_hex_digit(page, k, b / 16);
+    put_hex_digit(page, l, b)
+}
+
+fn put_bytes(page: &mut [u8], at: usize, buffer: &[u8]) -> usize {
+    let mut k = at;
+    let mut i = 0;
+    while i < buffer.len() {
+        k = put_hex(page, k, i, buffer[i]);
+        i += 1;
+    }
+    k
+}
+
+// The song of n bytes in this buffer, whose bytes are shown if they are few.
+fn put_played(page: &mut [u8], at: usize, polyphony: u8, n: usize, buffer: &mut [u8]) -> usize {
+    let a = song::write_song(polyphony, n, buffer);
+    let k = put_song(page, at, a);
+    if (0 < buffer.len()) & (buffer.len() <= 64) {
+        let l = put_bytes(page, k, buffer);
+        return put(page, l, b"\n");
+    }
+    k
+}
+
+// A number in three, highest first.
+fn in_three(high: u8, middle: u8, low: u8) -> usize {
+    (high as usize) * 65536 + (middle as usize) * 256 + (low as usize)
+}
+
+// The same in the first bytes of this space, as many as are asked for.
+fn put_lent(
+    page: &mut [u8],
+    at: usize,
+    polyphony: u8,
+    n: usize,
+    length: usize,
+    space: &mut [u8],
+) -> usize {
+    if space.len() < length {
+        return put_malformed(page, at);
+    }
+    put_played(page, at, polyphony, n, &mut space[..length])
+}
+
+fn put_song_asked(page: &mut [u8], at: usize, numbers: [u8; 64]) -> usize {
+    let n = in_three(numbers[1], numbers[2], numbers[3]);
+    let length = in_three(numbers[4], numbers[5], numbers[6]);
+    let mut space = [0xFFu8; 65538];
+    let all: &mut [u8] = &mut space;
+    put_lent(page, at, numbers[0], n, length, all)
+}
+
 // The answer to a command with one number that asks for a channel's record.
 fn put_channel(page: &mut [u8], at: usize, command: u8, c: Channel) -> usize {
     if command == b'L' {
@@ -502,6 +589,9 @@ fn run(s: Bench, page: &mut [u8]) -> Bench {
     }
     if (command == b'L') & (count == 3) {
         return with_used(s, put_levels_asked(page, s.used, numbers));
+    }
+    if (command == b'H') & (count == 7) {
+        return with_used(s, put_song_asked(page, s.used, numbers));
     }
     with_used(s, put_told(page, s.used, d, command, count, numbers[0]))
 }
