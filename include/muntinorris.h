@@ -2,14 +2,14 @@
  * Muntinorris: the note allocator of a scalable polyphony module, for C and C++.
  *
  * Who owns what. The caller owns the record, struct muntinorris_device, and keeps it in any memory: static, automatic or allocated. The library has no state of its
- * own, allocates nothing, keeps no pointer after a call returns, and writes nothing but the record that it is lent. A record may be copied by
+ * own, allocates nothing, keeps no pointer after a call returns, and writes nothing but the record or the buffer that it is lent. A record may be copied by
  * assignment; the copy is a device of its own.
  *
  * Calls. muntinorris_start makes the record, whatever the memory held before. Every other call that is lent the record wants one that a start made and that only these
- * calls have written since; on a record with other contents it still returns, and touches no memory but the record, but the answer means nothing. (A pitch, and gains by their
- * numbers, need no record; the gains of a channel mean what they say for any eleven bytes.) One record is used by one thread at a time; two records never touch each other.
+ * calls have written since; on a record with other contents it still returns, and touches no memory but the record, but the answer means nothing. (A pitch, gains by their
+ * numbers and a song need no record; the gains of a channel mean what they say for any eleven bytes.) One record is used by one thread at a time; two records never touch each other.
  *
- * A NULL or misaligned pointer, or one to less memory than the struct that is lent, is the caller's error and is not tested for. (The record is made of bytes alone, so its
+ * A NULL or misaligned pointer, or one to less memory than the struct or the length that is lent, is the caller's error and is not tested for. (The record is made of bytes alone, so its
  * alignment is 1 and every address is aligned for it.)
  *
  * Channels are 1 to 16, as musicians count them; the wire carries channel minus 1. "Document 01" is the specification, "The note allocator of a scalable
@@ -19,6 +19,7 @@
 #ifndef MUNTINORRIS_H
 #define MUNTINORRIS_H
 
+#include <stddef.h>
 #include <stdint.h>
 
 #ifdef __cplusplus
@@ -39,7 +40,7 @@ extern "C" {
 #define MUNTINORRIS_WAS_STOLEN 2  /* it was busy: its note is lost */
 
 /* The numbers of documents 01 and 02, and what each leaves behind. */
-#define MUNTINORRIS_BAD_POLYPHONY 1      /* start: the polyphony is not 1 to 64. A fresh record of polyphony 1 and own ID 0 */
+#define MUNTINORRIS_BAD_POLYPHONY 1      /* start: the polyphony is not 1 to 64. A fresh record of polyphony 1 and own ID 0. Song: the same. The buffer is untouched */
 #define MUNTINORRIS_BAD_ID 2             /* start: the own ID is above 126. The same */
 #define MUNTINORRIS_STRAY_DATA 3         /* a data byte with no status, SysEx or swallowing. No change */
 #define MUNTINORRIS_SYSEX_CUT 4          /* a SysEx was cut by a status below F7. The SysEx is dropped, the status taken */
@@ -55,6 +56,7 @@ extern "C" {
 #define MUNTINORRIS_NO_SUCH_CHANNEL 14   /* mask or share query: the channel is not 1 to 16. No change */
 #define MUNTINORRIS_BAD_PITCH 21         /* pitch: key above 127, sensitivity above 24 or bend above 16383. Entry 65536 and octave 0 */
 #define MUNTINORRIS_BAD_LEVEL 24         /* gains: expression, volume or pan above 127. Both gains 0 */
+#define MUNTINORRIS_SONG_TOO_LONG 25     /* song: above 65,536 bytes or longer than the buffer, and the polyphony is 1 to 64. The buffer is untouched */
 
 /*
  * The answer to a start, a byte or a report. number has a meaning with MUNTINORRIS_NUMBER; channel (1 to 16) and key (0 to 127) with MUNTINORRIS_NOTE and with the numbers 10
@@ -105,6 +107,12 @@ struct muntinorris_pitch_answer {
 struct muntinorris_gains_answer {
     float left;
     float right;
+    uint8_t number;
+};
+
+/* The thefts of a song. number is 0, or 1 or 25 where the call was refused, and then thefts is 0. (Three bytes of padding behind number.) */
+struct muntinorris_song_answer {
+    uint32_t thefts;
     uint8_t number;
 };
 
@@ -216,6 +224,14 @@ struct muntinorris_gains_answer muntinorris_gains(uint8_t expression, uint8_t vo
  * serves as well. Ask again after a message that changes one of the three: controllers 7, 10 and 11, controller 121, a GM System On.
  */
 struct muntinorris_gains_answer muntinorris_channel_gains(const struct muntinorris_channel *c);
+
+/*
+ * The hardest song of n bytes, 0 to 65,536, for a fresh device of this polyphony: it goes into the first n bytes of the buffer, whose other bytes stay. The caller owns the buffer
+ * and lends it for the call; length is all that it has, and with length 0 the pointer is not looked at. Each byte is played as it is written, on a device that the call
+ * makes for itself, and thefts counts the note-ons that were answered MUNTINORRIS_WAS_STOLEN. They come to (n - 1) / 2, rounded down, less the polyphony, and to 0 where that is negative
+ * or n is 0; without reports no n bytes make more, whatever they are. The song is 90H, and then for j = 0, 1, 2, .. key j mod 128 and velocity 64. Number 1, else 25.
+ */
+struct muntinorris_song_answer muntinorris_write_song(uint8_t polyphony, size_t n, uint8_t *song, size_t length);
 
 #ifdef __cplusplus
 }

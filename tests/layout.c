@@ -359,6 +359,43 @@ static void gains(void)
     check(a.left == 0 && a.right == 0 && a.number == MUNTINORRIS_BAD_LEVEL, "number 24 for a channel's numbers");
 }
 
+/* From a place on, the buffer of 40 bytes is as it was filled. */
+static int is_kept(const uint8_t *song, unsigned from)
+{
+    for (; from < 40; from++)
+        if (song[from] != 0xA5)
+            return 0;
+    return 1;
+}
+
+/*
+ * The fields of a song's answer, each with a value of its own, with 300 thefts and more; the buffer before and behind the n-th byte. The song of 21 bytes is played anew on a device as a
+ * driver would: 10 notes on 3 generators. Then both numbers, number 1 first, with the whole buffer untouched, and a song of no byte in no memory.
+ */
+static void songs(void)
+{
+    static uint8_t longest[65536];
+    uint8_t song[40];
+    struct muntinorris_song_answer a = muntinorris_write_song(64, sizeof longest, longest, sizeof longest);
+    unsigned i, thefts = 0;
+
+    check(a.thefts == 32703 && a.number == 0 && longest[0] == 0x90 && longest[65535] == 127, "the longest song");
+    memset(song, 0xA5, sizeof song);
+    a = muntinorris_write_song(3, 21, song, sizeof song);
+    check(a.thefts == 7 && a.number == 0 && is_kept(song, 21), "a song of 21 bytes");
+    muntinorris_start(device, 3, 0);
+    for (i = 0; i < 21; i++)
+        thefts += muntinorris_byte(device, song[i]).was == MUNTINORRIS_WAS_STOLEN;
+    check(thefts == 7, "the thefts of a song played anew");
+    memset(song, 0xA5, sizeof song);
+    a = muntinorris_write_song(65, 41, song, sizeof song);
+    check(a.thefts == 0 && a.number == MUNTINORRIS_BAD_POLYPHONY && is_kept(song, 0), "number 1 for a song");
+    a = muntinorris_write_song(64, 41, song, sizeof song);
+    check(a.thefts == 0 && a.number == MUNTINORRIS_SONG_TOO_LONG && is_kept(song, 0), "number 25");
+    a = muntinorris_write_song(1, 0, NULL, 0);
+    check(a.thefts == 0 && a.number == 0, "a song of no byte");
+}
+
 /* Of each struct its size, then of each field its place and size; the fields must fill it, so that none is left out here. */
 static size_t unlisted;
 #define STRUCT(s) (check(unlisted == 0, "every field of the struct before " #s " is listed"), unlisted = sizeof(struct muntinorris_##s), line("%s %u\n", #s, (unsigned)unlisted))
@@ -395,6 +432,7 @@ static void layout(void)
     STRUCT(share_answer), FIELD(share_answer, number), FIELD(share_answer, share);
     STRUCT(pitch_answer), FIELD(pitch_answer, entry), FIELD(pitch_answer, octave), FIELD(pitch_answer, number), unlisted -= 2; /* padding */
     STRUCT(gains_answer), FIELD(gains_answer, left), FIELD(gains_answer, right), FIELD(gains_answer, number), unlisted -= 3; /* padding */
+    STRUCT(song_answer), FIELD(song_answer, thefts), FIELD(song_answer, number), unlisted -= 3; /* padding */
     check(unlisted == 0, "every field of the last struct is listed");
 }
 
@@ -414,6 +452,7 @@ int main(int argc, char **argv)
     numbers();
     pitches();
     gains();
+    songs();
     if (failures == 0)
         printf("the record of %u bytes is the library's\n", (unsigned)sizeof(struct muntinorris_device));
     return failures != 0;

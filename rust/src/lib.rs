@@ -76,7 +76,7 @@ pub struct Gains {
     pub right: f32,
 }
 
-/// The number of a refused query, 12 or 14, of a refused pitch, 21, or of refused gains, 24.
+/// The number of a refused query, 12 or 14, of a refused pitch, 21, of refused gains, 24, or of a refused song, 1 or 25.
 #[derive(Clone, Copy, Debug, PartialEq, Eq)]
 pub struct Refused(pub u8);
 
@@ -90,6 +90,7 @@ extern "C" {
     fn muntinorris_pitch(key: u8, sensitivity: u8, bend: u16) -> record::PitchNumbers;
     fn muntinorris_gains(expression: u8, volume: u8, pan: u8) -> record::GainNumbers;
     fn muntinorris_channel_gains(c: *const Channel) -> record::GainNumbers;
+    fn muntinorris_write_song(polyphony: u8, n: usize, song: *mut u8, length: usize) -> record::SongNumbers;
 }
 
 impl From<record::AnswerNumbers> for Answer {
@@ -212,4 +213,19 @@ impl Channel {
         // SAFETY: the pointer is to a channel, which the call reads and does not keep.
         unsafe { muntinorris_channel_gains(self) }.into()
     }
+}
+
+/// Writes the hardest song of `n` bytes for a fresh device of this polyphony into the buffer's first `n` bytes, and gives its thefts, counted while it is played: without reports
+/// no `n` bytes make more. Number 1 for a polyphony that is not 1 to 64, else 25 for `n` above 65,536 or above the buffer's length; the buffer is then untouched.
+///
+/// ```
+/// let mut song = [0; 9];
+/// assert_eq!(muntinorris::write_song(2, 9, &mut song), Ok(2));
+/// assert_eq!(song, [0x90, 0, 64, 1, 64, 2, 64, 3, 64]);
+/// assert_eq!(muntinorris::write_song(2, 10, &mut song).unwrap_err().0, 25);
+/// ```
+pub fn write_song(polyphony: u8, n: usize, song: &mut [u8]) -> Result<u32, Refused> {
+    // SAFETY: the pointer is to as many bytes as the length says, which nobody else has for the call.
+    let a = unsafe { muntinorris_write_song(polyphony, n, song.as_mut_ptr(), song.len()) };
+    answered(a.number, a.thefts)
 }

@@ -140,6 +140,13 @@ pub struct GainNumbers {
     pub number: u8,
 }
 
+#[repr(C)]
+#[derive(Clone, Copy, Debug, PartialEq, Eq)]
+pub struct SongNumbers {
+    pub thefts: u32,
+    pub number: u8,
+}
+
 /// Each struct's size, and each field's place and size, in the names of the header: what the C test prints with the word `print`.
 pub fn layout() -> String {
     let mut lines = String::new();
@@ -163,5 +170,6 @@ pub fn layout() -> String {
     lay!("share_answer", ShareNumbers { number: u8, share: u8 });
     lay!("pitch_answer", PitchNumbers { entry: u32, octave: i8, number: u8 });
     lay!("gains_answer", GainNumbers { left: f32, right: f32, number: u8 });
+    lay!("song_answer", SongNumbers { thefts: u32, number: u8 });
     lines
 }

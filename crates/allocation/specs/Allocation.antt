@@ -1,6 +1,6 @@
 -- Document 01, "Note-on, velocity above 0": steps 1 to 5, and the assignment.
 use Prim.Native.Nat.{ℕ}
-use mathlib.Core.Bool.{Bool}
+use mathlib.Core.Bool.{Bool, true, false}
 use Rattle.loops.specs.Cases.{if_then_else_}
 use Rattle.table.specs.declared.Table.{Table}
 use Rattle.shares.specs.Shares.{shareOf, isMasked}
@@ -26,6 +26,12 @@ use Rattle.allocation.specs.declared.Allocated.{Allocated}
 -- steps 2 and 3: what the new note ends
 unfoldable pub cleared : Bool → ℕ → ℕ → Generators → Generators
 cleared rhythm c k s = if rhythm then silenced (Group c k) (changed (ReleaseNote c k) s) else changed (ReleaseNote c k) s
+
+-- a theft: "what the generator was: idle, release or stolen"
+abbrev pub isStolen : Was → Bool
+isStolen Idle = false
+isStolen Release = false
+isStolen Stolen = true
 
 -- step 5: the oldest busy generator of the channel to steal from; "If it has none, number 11"
 abbrev pub stolen : Found → Taken

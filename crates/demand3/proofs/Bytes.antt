@@ -35,13 +35,13 @@ use Rattle.playing.specs.declared.Answer.the-variants as answer
 use Rattle.playing.specs.declared.Reply.{Reply}
 use Rattle.device.specs.declared.Device.{Device}
 use Rattle.device.specs.declared.Output.{Output}
-use Rattle.device.specs.Device.{freshOutput, started, heard, byteTaken}
+use Rattle.device.specs.Device.{freshDevice, freshOutput, started, heard, byteTaken}
 use Rattle.exclusive.specs.Exclusive.{judgedReply, mipTaken, kindReply, exclusive}
 use Rattle.exclusive.specs.Exclusive as of-exclusive
 use Rattle.events.specs.declared.Event.{Event}
 use Rattle.events.specs.declared.Event.the-variants.{Byte, Report}
 use Rattle.events.specs.Events.{reportTaken, taken}
-use Rattle.demand3.specs.Demand3.{Book, startBook, Heard, nothing, message, newTable, reset, report, isDone, exclusiveHeard, completedHeard, splitterAfter, Demand3, Both, Live, begin}
+use Rattle.demand3.specs.Demand3.{Book, freshBook, startBook, Heard, nothing, message, newTable, reset, report, isDone, exclusiveHeard, completedHeard, splitterAfter, Demand3, Both, Live, begin}
 use Rattle.demand3.specs.Age.{AgeByAnswers}
 use Rattle.demand3.proofs.Matches.{Matches}
 use Rattle.demand3.proofs.Steps.{IsSent, step-fresh}
@@ -124,8 +124,13 @@ lawful =
 
 -- ---- any start
 
+-- a fresh device and a fresh book, of any own ID
+pub fine-fresh : (p id : ℕ) → p ≤ 64 → Fine Live lawful (record { device = freshDevice p id; book = freshBook p id })
+unfolding lawful
+fine-fresh p id h = record { is = refl; matches = step-fresh p id h }
+
 pub fine-begin : (p id : ℕ) → Fine Live lawful (begin p id)
-unfolding started lawful
+unfolding started
 fine-begin p id = go (ltb p 1 || ltb 64 p) refl (ltb 126 id)
   where
     begun : Output → Both
@@ -137,9 +142,9 @@ fine-begin p id = go (ltb p 1 || ltb 64 p) refl (ltb 126 id)
 
     go : (x : Bool) → ltb p 1 || ltb 64 p ≡ x → (y : Bool)
         → Fine Live lawful (begun (if x then freshOutput (answer.Number 1) 1 0 else if y then freshOutput (answer.Number 2) 1 0 else freshOutput answer.Done p id))
-    go true e y = record { is = refl; matches = step-fresh 1 0 (omega arith) }
-    go false e true = record { is = refl; matches = step-fresh 1 0 (omega arith) }
-    go false e false = record { is = refl; matches = step-fresh p id (ltb-false 64 p (first-false (ltb p 1) (ltb 64 p) e)) }
+    go true e y = fine-fresh 1 0 (omega arith)
+    go false e true = fine-fresh 1 0 (omega arith)
+    go false e false = fine-fresh p id (ltb-false 64 p (first-false (ltb p 1) (ltb 64 p) e))
 
 -- Demand 3: for every start, refused ones too, and every list of bytes and reports.
 pub demand-3 : (p id : ℕ) (l : List Event) → Demand3 Live (begin p id) l

@@ -1,4 +1,4 @@
--- Steps 4 and 5 behind one law: what the choice can be, said of the notes. The stolen generator is known only as a busy one of the chosen channel.
+-- Steps 4 and 5 behind one law: what the choice can be, said of the notes; of the stolen generator also that it is the oldest busy one of the chosen channel.
 -- Assumes nothing.
 use mathlib.Core.Path.{_≡_, refl, sym, ap, _∙_, subst}
 use mathlib.Core.Bool.{Bool, true, false, not, _&&_, _||_}
@@ -32,8 +32,8 @@ use Rattle.allocation.specs.declared.Was.{Was}
 use Rattle.allocation.specs.declared.Was.the-variants.{Idle, Release, Stolen}
 use Rattle.allocation.specs.declared.Taken.{Taken}
 use Rattle.allocation.specs.declared.Taken.the-variants.{Took, Refused}
-use Rattle.allocation.specs.Allocation.{stolen, stealOf, step5, orElse5, orElse4, choice}
-use Rattle.demand3.specs.Demand3.{Slot, empty, note, isNote, isOf, isStolen, slotOf, notesOn}
+use Rattle.allocation.specs.Allocation.{isStolen, stolen, stealOf, step5, orElse5, orElse4, choice}
+use Rattle.demand3.specs.Demand3.{Slot, empty, note, isNote, isOf, slotOf, notesOn}
 use Rattle.demand3.proofs.Sees.{Sees, Kind, kind, held, sustained, neither}
 use Rattle.demand3.proofs.Playable.{Playable}
 use Rattle.demand3.proofs.Pigeons.{IsOver, IsListed, withNew, over-some, over-same, pigeons}
@@ -139,12 +139,12 @@ over-none (Units u) v = omega arith
 abbrev pub Full : ℕ → (ℕ → Slot) → Type 0
 Full p n = (g : ℕ) → g < p → isNote (n g) ≡ true
 
-pub data Chosen (p : ℕ) (n : ℕ → Slot) (q : List Entry) (c : ℕ) : Taken → Type 0 where
-  free : (g : ℕ) (w : Was) → isStolen w ≡ false → g < p → n g ≡ empty → Chosen p n q c (Took g w)
-  theft : (g d : ℕ) → Full p n → g < p → isOf d (n g) ≡ true → IsOver (lookup d q) (withNew p n c d) → Chosen p n q c (Took g Stolen)
-  shut : Full p n → IsOver (lookup c q) (withNew p n c c) → Chosen p n q c (Refused 11)
+pub data Chosen (p : ℕ) (n : ℕ → Slot) (s : Generators) (q : List Entry) (c : ℕ) : Taken → Type 0 where
+  free : (g : ℕ) (w : Was) → isStolen w ≡ false → g < p → n g ≡ empty → Chosen p n s q c (Took g w)
+  theft : (g d : ℕ) → Full p n → g < p → isOf d (n g) ≡ true → IsOver (lookup d q) (withNew p n c d) → oldest (BusyOn d) s ≡ At g → Chosen p n s q c (Took g Stolen)
+  shut : Full p n → IsOver (lookup c q) (withNew p n c c) → notesOn p c n ≡ 0 → Chosen p n s q c (Refused 11)
 
-total-cut : (f : ℕ → ℕ) (m n : ℕ) → m ≤ n → ((i : ℕ) → m ≤ i → f i ≡ 0) → total f n ≡ total f m
+pub total-cut : (f : ℕ → ℕ) (m n : ℕ) → m ≤ n → ((i : ℕ) → m ≤ i → f i ≡ 0) → total f n ≡ total f m
 unfolding total
 total-cut f m zero h z = let e : m ≡ 0 = omega arith in rw e
 total-cut f m (suc n) h z = go (ltb n m) refl (total-cut f m n)
@@ -174,9 +174,9 @@ module _ (p : ℕ) (n : ℕ → Slot) (s : Generators) (o : Playable p s) (e : S
 
   module _ (q : List Entry) (c : ℕ) (u : Distinct q) (t : sum q ≤ p) (l : listed c q ≡ true) (h : (g : ℕ) → IsListed q (n g)) where
     -- the chosen channel has a busy generator, or is the new note's own
-    victim : Full p n → (d : ℕ) → IsOver (lookup d q) (withNew p n c d) → Chosen p n q c (stolen (oldest (BusyOn d) s))
+    victim : Full p n → (d : ℕ) → IsOver (lookup d q) (withNew p n c d) → Chosen p n s q c (stolen (oldest (BusyOn d) s))
     unfolding oldest wanted total
-    victim f d v = go (firstOf (λ g. isBusyOn d (at s g)) (oldestFirst (s .ages))) (first-law (λ g. isBusyOn d (at s g)) (oldestFirst (s .ages)))
+    victim f d v = go (firstOf (λ g. isBusyOn d (at s g)) (oldestFirst (s .ages))) refl (first-law (λ g. isBusyOn d (at s g)) (oldestFirst (s .ages)))
       where
         own : (m : ℕ) (b : Bool) → eqb d c ≡ b → m ≡ 0 → IsOver (lookup d q) (m + bit b) → d ≡ c
         own m true eb z v = eqb-true d c eb
@@ -186,33 +186,34 @@ module _ (p : ℕ) (n : ℕ → Slot) (s : Generators) (o : Playable p s) (e : S
         unheard z g true i = ap (isOf d) (e g ∙ idle-slot (at s g) i)
         unheard z g false i = ap (isOf d) (e g) ∙ sym (busy-slot d (at s g)) ∙ z g (in-order g i)
 
-        go : (x : Option ℕ) → Picked (λ g. isBusyOn d (at s g)) (oldestFirst (s .ages)) x → Chosen p n q c (stolen (found x))
-        go x (some-one g b k) =
+        go : (x : Option ℕ) → firstOf (λ g. isBusyOn d (at s g)) (oldestFirst (s .ages)) ≡ x → Picked (λ g. isBusyOn d (at s g)) (oldestFirst (s .ages)) x → Chosen p n s q c (stolen (found x))
+        go x r (some-one g b k) =
             let y : isOf d (n g) ≡ true = ap (isOf d) (e g) ∙ sym (busy-slot d (at s g)) ∙ b in
-            theft g d f (below g (note-sounds (at s g) (ap isNote (sym (e g)) ∙ of-note d (n g) y))) y v
-        go x (no-one z) =
+            theft g d f (below g (note-sounds (at s g) (ap isNote (sym (e g)) ∙ of-note d (n g) y))) y v (ap found r)
+        go x r (no-one z) =
             let m : notesOn p d n ≡ 0 = total-cut (λ (g : ℕ). bit (isOf d (n g))) 0 p (omega arith) (λ g k. ap bit (unheard z g (isIdle (at s g)) refl)) in
-            shut f (subst (λ (y : ℕ). IsOver (lookup y q) (withNew p n c y)) (own (notesOn p d n) (eqb d c) refl m v) v)
+            let h : d ≡ c = own (notesOn p d n) (eqb d c) refl m v in
+            shut f (subst (λ (y : ℕ). IsOver (lookup y q) (withNew p n c y)) h v) (subst (λ (y : ℕ). notesOn p y n ≡ 0) h m)
 
-    rob : Full p n → (x : Option ℕ) → overShare (withNew p n c) q ≡ x → Chosen p n q c (stealOf s (toLoser x))
+    rob : Full p n → (x : Option ℕ) → overShare (withNew p n c) q ≡ x → Chosen p n s q c (stealOf s (toLoser x))
     rob f none r = absurd (pigeons p n q c f h l t r)
     rob f (some d) r = victim f d (over-some (withNew p n c) q d u r)
 
-    pub chosen : (m : Table) → shares p m ≡ q → Chosen p n q c (choice s m p c)
+    pub chosen : (m : Table) → shares p m ≡ q → Chosen p n s q c (choice s m p c)
     unfolding choice lowestIdle oldest wanted step5 stealFrom
     chosen m r = rw (at-most-p p (o .few)) (go (firstOf (λ g. isIdle (at s g)) (numbers p)) (first-law (λ g. isIdle (at s g)) (numbers p)))
       where
-        steal : Full p n → Chosen p n q c (stealOf s (toLoser (overShare (counted s c) (shares p m))))
+        steal : Full p n → Chosen p n s q c (stealOf s (toLoser (overShare (counted s c) (shares p m))))
         steal f = rw (r, over-same (counted s c) (withNew p n c) q (λ d. ap (λ (k : ℕ). k + bit (eqb d c)) (count-notes d))) (rob f (overShare (withNew p n c) q) refl)
 
         full : ((g : ℕ) → 1 ≤ occurs g (numbers p) → isIdle (at s g) ≡ false) → ((g : ℕ) → 1 ≤ occurs g (oldestFirst (s .ages)) → isReleasing (at s g) ≡ false) → Full p n
         full a b g k = let i = a g (in-numbers p g k) in ap isNote (e g) ∙ rest-notes (at s g) (o .states g) i (b g (in-order g i))
 
         next : ((g : ℕ) → 1 ≤ occurs g (numbers p) → isIdle (at s g) ≡ false) → (x : Option ℕ) → Picked (λ g. isReleasing (at s g)) (oldestFirst (s .ages)) x
-            → Chosen p n q c (orElse5 s m p c (found x))
+            → Chosen p n s q c (orElse5 s m p c (found x))
         next a x (some-one g b k) = free g Release refl (below g (releasing-sounds (at s g) b)) (e g ∙ releasing-slot (at s g) b)
         next a x (no-one b) = steal (full a b)
 
-        go : (x : Option ℕ) → Picked (λ g. isIdle (at s g)) (numbers p) x → Chosen p n q c (orElse4 s m p c (found x))
+        go : (x : Option ℕ) → Picked (λ g. isIdle (at s g)) (numbers p) x → Chosen p n s q c (orElse4 s m p c (found x))
         go x (some-one g b k) = free g Idle refl (numbers-in p g k) (e g ∙ idle-slot (at s g) b)
         go x (no-one a) = next a (firstOf (λ g. isReleasing (at s g)) (oldestFirst (s .ages))) (first-law (λ g. isReleasing (at s g)) (oldestFirst (s .ages)))

@@ -29,7 +29,7 @@ use Rattle.allocation.specs.declared.Was.the-variants.{Stolen}
 use Rattle.allocation.specs.declared.Taken.{Taken}
 use Rattle.allocation.specs.declared.Taken.the-variants.{Took, Refused}
 use Rattle.allocation.specs.declared.Allocated.{Allocated}
-use Rattle.allocation.specs.Allocation.{cleared, choice, allocated, noteOn}
+use Rattle.allocation.specs.Allocation.{isStolen, cleared, choice, allocated, noteOn}
 use Rattle.instrument.specs.declared.Instrument.{Instrument}
 use Rattle.instrument.specs.Instrument.{channelOf, withGenerators}
 use Rattle.instrument.specs.Instrument as of-instrument
@@ -37,7 +37,7 @@ use Rattle.playing.specs.declared.Answer.{Answer}
 use Rattle.playing.specs.declared.Answer.the-variants.{Note, NoNote}
 use Rattle.playing.specs.declared.Reply.{Reply}
 use Rattle.playing.specs.Playing.{noteReply, playNoteOn}
-use Rattle.demand3.specs.Demand3.{Slot, empty, note, Book, withNotes, shareOf, isRhythm, isNote, isOf, isEnded, freed, put, remaining, keepNoteOn, isStolen, IsFull, notesOn}
+use Rattle.demand3.specs.Demand3.{Slot, empty, note, Book, withNotes, shareOf, isRhythm, isNote, isOf, isEnded, freed, put, remaining, keepNoteOn, IsFull, notesOn}
 use Rattle.demand3.specs.Age.{named}
 use Rattle.demand3.proofs.Playable.{Playable, playable-cleared, playable-assigned}
 use Rattle.demand3.proofs.Sees.{Sees, sees-cleared, sees-assigned}
@@ -162,9 +162,9 @@ note-law i b m c k = go (isMasked (of-table.shareOf (i .table) (i .polyphony) c)
     standing : (g : ℕ) → IsListed q (n g)
     standing g = freed-listed q (isEnded r c k) false (b .notes g) (m .unmasked g)
 
-    choose : listed c q ≡ true → Chosen p n q c (choice s (i .table) (i .polyphony) c)
+    choose : listed c q ≡ true → Chosen p n s q c (choice s (i .table) (i .polyphony) c)
     choose l =
-        subst (λ (x : ℕ). Chosen p n q c (choice s (i .table) x c)) (sym (m .polyphony))
+        subst (λ (x : ℕ). Chosen p n s q c (choice s (i .table) x c)) (sym (m .polyphony))
         (chosen p n s ready seen q c (shares-distinct p 0 (b .table) (m .well-formed .distinct)) (let h = sum-from p 0 (b .table) (m .well-formed .rising) (omega arith) in omega arith) l standing (i .table) (ap (λ (l : List Entry). sharesFrom p 0 l) (m .table)))
 
     full : Full p n → IsFull b c k
@@ -183,10 +183,10 @@ note-law i b m c k = go (isMasked (of-table.shareOf (i .table) (i .polyphony) c)
         let z = ready .few in
         follows-assigned s (ready .ordered) g c k (omega arith) l (follows-cleared r c k (i .generators) (m .playable .ordered) l f)
 
-    take : isMasked (shareOf b c) ≡ false → listed c q ≡ true → (t : Taken) → Chosen p n q c t → NoteLaw i b c k (noteReply i c k (allocated (i .generators) s c k t))
+    take : isMasked (shareOf b c) ≡ false → listed c q ≡ true → (t : Taken) → Chosen p n s q c t → NoteLaw i b c k (noteReply i c k (allocated (i .generators) s c k t))
     take u l t (free g w z h e) = record { outcome = served g w u z e; matches = taking l g h; follows = newest g h }
-    take u l t (theft g d f h e v) = record { outcome = robbed g d u (full f) e v; matches = taking l g h; follows = newest g h }
-    take u l t (shut f v) = record { outcome = turned u (full f) v; matches = same; follows = λ l f. f }
+    take u l t (theft g d f h e v o) = record { outcome = robbed g d u (full f) e v; matches = taking l g h; follows = newest g h }
+    take u l t (shut f v z) = record { outcome = turned u (full f) v; matches = same; follows = λ l f. f }
 
     go : (x : Bool) → isMasked (of-table.shareOf (i .table) (i .polyphony) c) ≡ x
         → NoteLaw i b c k (noteReply i c k (if x then record { taken = Refused 10; generators = i .generators } else allocated (i .generators) s c k (choice s (i .table) (i .polyphony) c)))

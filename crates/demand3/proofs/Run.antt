@@ -31,7 +31,7 @@ use Rattle.other_messages.specs.OtherMessages.{liftsPedal, silencesAll, endsAll
 use Rattle.reports.specs.Reports.{reported}
 use Rattle.exclusive.specs.Exclusive as of-exclusive
 use Rattle.demand3.specs.Demand3.{Slot, empty, note, Book, withParser, shareOf, isRhythm, isNote, isOf, isEnded, freed, allFreed, put, withHolds, remaining, keepNoteOn, keepNoteOff, notesAfter, keepControl, keepMessage, keepTable, keepReport, Heard, nothing, message, newTable, reset, report, keep}
-use Rattle.demand3.specs.Demand3.{notesOn, countAt, IsWithin, stolenNote, isStolen, isLoss, IsFull, isServed, Fair, Keeps, Safe, AtNoteOn, IsInRun, System, after, IsExact, Always, Each, IsRun, StaysWithin, Demand3}
+use Rattle.demand3.specs.Demand3.{notesOn, countAt, IsWithin, stolenNote, isLoss, IsFull, isServed, Fair, Keeps, Safe, AtNoteOn, IsInRun, System, after, IsExact, Always, Each, IsRun, StaysWithin, Demand3}
 use Rattle.demand3.specs.Age.{named}
 use Rattle.demand3.proofs.Pigeons.{IsOver, flip, withNew}
 use Rattle.demand3.proofs.Matches.{Matches, Outcome, masked, served, robbed, turned, note-law}

@@ -15,10 +15,11 @@ use Rattle.shares.specs.Shares.{isMasked}
 use Rattle.generators.specs.Generators.{at, isIdle}
 use Rattle.allocation.specs.declared.Was.{Was}
 use Rattle.allocation.specs.declared.Was.the-variants.{Stolen}
+use Rattle.allocation.specs.Allocation.{isStolen}
 use Rattle.playing.specs.declared.Answer.{Answer}
 use Rattle.playing.specs.declared.Answer.the-variants.{Nothing, Done, Note, NoNote, Number}
 use Rattle.events.specs.declared.Event.{Event}
-use Rattle.demand3.specs.Demand3.{Book, isNote, isOf, isEnded, remaining, Heard, nothing, message, newTable, reset, report, IsWithin, isStolen, isLoss, isServed, Fair, Safe, IsInRun, System, after, IsExact, Always, Each, IsRun, StaysWithin, Demand3, Live, begin}
+use Rattle.demand3.specs.Demand3.{Book, isNote, isOf, isEnded, remaining, Heard, nothing, message, newTable, reset, report, IsWithin, isLoss, isServed, Fair, Safe, IsInRun, System, after, IsExact, Always, Each, IsRun, StaysWithin, Demand3, Live, begin}
 use Rattle.demand3.specs.Demand3 as of-book
 use Rattle.demand3.proofs.Bytes.{demand-3}
 

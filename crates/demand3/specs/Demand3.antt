@@ -25,8 +25,7 @@ use Rattle.sysex.specs.declared.Kind.the-variants as kind
 use Rattle.sysex.specs.SysEx.{kindOf, pairs}
 use Rattle.drums.specs.Drums.{excludes}
 use Rattle.generators.specs.Generators.{Generator, at, isIdle, isHeld, isSustained}
-use Rattle.allocation.specs.declared.Was.{Was}
-use Rattle.allocation.specs.declared.Was.the-variants.{Idle, Release, Stolen}
+use Rattle.allocation.specs.Allocation.{isStolen}
 use Rattle.instrument.specs.declared.Instrument.{Instrument}
 use Rattle.playing.specs.declared.Answer.{Answer}
 use Rattle.playing.specs.declared.Answer.the-variants.{Nothing, Done, Note, NoNote, Number}
@@ -254,11 +253,6 @@ stolenNote b c k Nothing = empty
 stolenNote b c k Done = empty
 stolenNote b c k (NoNote n x y) = empty
 stolenNote b c k (Number n) = empty
-
-abbrev pub isStolen : Was → Bool
-isStolen Idle = false
-isStolen Release = false
-isStolen Stolen = true
 
 -- "a note-on above 0 answers stolen, makes a note leave as stolen or, on an unmasked channel, answers a number": more than that sentence, since every answer but
 -- note turns an unmasked channel away, done and none as well as a number

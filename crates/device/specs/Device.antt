@@ -27,9 +27,12 @@ abbrev pub freshOutput : Answer → ℕ → ℕ → Output
 freshOutput a p id = record { answer = a; device = freshDevice p id }
 
 -- numbers 1 and 2: "P not 1 to 64", "ID above 126"; both leave the "fresh record, P 1, ID 0"
+abbrev pub isWrongP : ℕ → Bool
+isWrongP p = ltb p 1 || ltb 64 p
+
 unfoldable pub started : ℕ → ℕ → Output
 started p id =
-    if ltb p 1 || ltb 64 p then freshOutput (answer.Number 1) 1 0 else
+    if isWrongP p then freshOutput (answer.Number 1) 1 0 else
     if ltb 126 id then freshOutput (answer.Number 2) 1 0 else
     freshOutput answer.Done p id
 

@@ -6,7 +6,8 @@ ghost use Rattle.events.specs.Events.{taken};
 ghost use Rattle.events.specs.declared.Event.the-variants.{Byte, Report};
 ghost use Rattle.queries.specs.Queries.{generatorQuery, deviceMask, deviceShare};
 ghost use Rattle.pitch.specs.Pitch.{pitchOf};
-ghost use Rattle.numbers.specs.Numbers.{numbersOf, generatorNumbers, maskNumbers, shareNumbers, pitchNumbers, GainsTold, GainsToldOf};
+ghost use Rattle.song.specs.Song.{songAnswer, songWritten};
+ghost use Rattle.numbers.specs.Numbers.{numbersOf, generatorNumbers, maskNumbers, shareNumbers, pitchNumbers, GainsTold, GainsToldOf, songNumbers};
 use channels::Channel;
 use device::Device;
 use numbers::AnswerNumbers;
@@ -15,6 +16,7 @@ use numbers::GeneratorNumbers;
 use numbers::MaskNumbers;
 use numbers::PitchNumbers;
 use numbers::ShareNumbers;
+use numbers::SongNumbers;
 
 // The record becomes that of a start, whatever it was.
 #[no_mangle]
@@ -88,4 +90,12 @@ pub extern "C" fn muntinorris_channel_gains(c: &Channel) -> GainNumbers
     ensures { λ r. ⌜ GainsToldOf (now (c .entry)) r ⌝ }
 {
     numbers::channel_gain_numbers(*c)
+}
+
+// The hardest song of n bytes for a fresh device of this polyphony, written into the lent buffer and played while it is written.
+#[no_mangle]
+pub extern "C" fn muntinorris_write_song(polyphony: u8, n: usize, song: &mut [u8]) -> SongNumbers
+    ensures { λ r. ⌜ (r ≡ songNumbers (songAnswer polyphony n (now (song .entry)))) × (now (song .exit) ≡ songWritten polyphony n (now (song .entry))) ⌝ }
+{
+    numbers::song_numbers(song::write_song(polyphony, n, song))
 }

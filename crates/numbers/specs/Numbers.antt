@@ -25,7 +25,10 @@ use Rattle.numbers.specs.declared.GeneratorNumbers.{GeneratorNumbers}
 use Rattle.numbers.specs.declared.MaskNumbers.{MaskNumbers}
 use Rattle.numbers.specs.declared.ShareNumbers.{ShareNumbers}
 use Rattle.numbers.specs.declared.PitchNumbers.{PitchNumbers}
+use Rattle.song.specs.declared.SongAnswer.{SongAnswer}
+use Rattle.song.specs.Song.{theftsIn, songNumber}
 use Rattle.numbers.specs.declared.GainNumbers.{GainNumbers}
+use Rattle.numbers.specs.declared.SongNumbers.{SongNumbers}
 
 -- "what the generator was: idle, release or stolen"
 abbrev pub wasNumber : Was → ℕ
@@ -65,3 +68,7 @@ GainsTold e v p r = (r .number ≡ orZero (numberFor e v p)) × Gives (isOut e v
 
 abbrev pub GainsToldOf : Channel → GainNumbers → Type 0
 GainsToldOf c r = GainsTold (c .expression) (c .volume) (c .pan) r
+
+-- the thefts of a song or, beside number 1 or 25, 0
+abbrev pub songNumbers : SongAnswer → SongNumbers
+songNumbers a = record { thefts = theftsIn a; number = orZero (songNumber a) }

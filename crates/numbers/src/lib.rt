@@ -2,7 +2,7 @@
 ghost use mathlib.Core.Path.{_≡_};
 ghost use Rattle.queries.specs.Queries.{generatorQuery, deviceMask, deviceShare};
 ghost use Rattle.pitch.specs.Pitch.{pitchOf};
-ghost use Rattle.numbers.specs.Numbers.{wasNumber, numbersOf, generatorNumbers, maskNumbers, shareNumbers, pitchNumbers, GainsTold, GainsToldOf};
+ghost use Rattle.numbers.specs.Numbers.{wasNumber, numbersOf, generatorNumbers, maskNumbers, shareNumbers, pitchNumbers, GainsTold, GainsToldOf, songNumbers};
 use allocation::Was;
 use channels::Channel;
 use device::Device;
@@ -12,6 +12,7 @@ use playing::Answer;
 use queries::GeneratorAnswer;
 use shares::MaskAnswer;
 use shares::ShareAnswer;
+use song::SongAnswer;
 
 // An answer: what (0 none, 1 done, 2 a note, 3 a number), the number, channel and key, the generator and what it was (0 idle, 1 release, 2 stolen). A field without meaning is 0.
 #[repr(C)]
@@ -60,6 +61,13 @@ pub struct PitchNumbers {
 pub struct GainNumbers {
     pub left: f32,
     pub right: f32,
+    pub number: u8,
+}
+
+// The thefts of a song, or number 1 or 25 with 0.
+#[repr(C)]
+pub struct SongNumbers {
+    pub thefts: u32,
     pub number: u8,
 }
 
@@ -211,4 +219,23 @@ pub fn channel_gain_numbers(c: Channel) -> GainNumbers
     ensures { λ r. ⌜ GainsToldOf c r ⌝ }
 {
     gain_numbers(c.expression, c.volume, c.pan)
+}
+
+pub fn song_numbers(a: SongAnswer) -> SongNumbers
+    ensures { λ r. ⌜ r ≡ songNumbers a ⌝ }
+{
+    match a {
+        SongAnswer::Thefts(thefts) => SongNumbers {
+            thefts: thefts,
+            number: 0,
+        },
+        SongAnswer::WrongPolyphony => SongNumbers {
+            thefts: 0,
+            number: 1,
+        },
+        SongAnswer::TooLong => SongNumbers {
+            thefts: 0,
+            number: 25,
+        },
+    }
 }

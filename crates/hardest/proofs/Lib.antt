@@ -1,0 +1,5 @@
+pub mod Starts
+pub mod Counts
+pub mod Worst
+pub mod Line
+pub mod Reached

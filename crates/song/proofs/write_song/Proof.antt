@@ -1,0 +1,97 @@
+-- `song::write_song` meets its contract: number 1 before number 25, and a loop whose invariant is `Turn`. The measure is what is left of the song.
+-- Assumes nothing.
+use Prim.Native.Nat.{_-_}
+use native.Mathlib.Omega.{arith}
+use Rattle.song.specs.Song.{songAnswer, songWritten}
+use Rattle.song.proofs.Written.{Turn, turn-first, turn-next, turn-last}
+use borrow.Author.Needs.{needs}
+use Rattle.song.proofs.write_song.Statement.{statement}
+use Rattle.song.proofs.write_song.Tie as tie
+
+abbrev Inv-loop : tie.InvT-loop
+Inv-loop polyphony n song₀ d₀ thefts₀ i₀ song d thefts i = Turn polyphony n song₀ song d thefts i
+
+abbrev μ-loop : tie.MeasureT-loop
+μ-loop polyphony n song₀ d₀ thefts₀ i₀ song d thefts i = n - i
+
+returns : tie.Need-returns Inv-loop μ-loop
+unfolding songAnswer songWritten
+returns c = (simp (c .if1 .taken), simp (c .if1 .taken))
+
+returns-2 : tie.Need-returns-2 Inv-loop μ-loop
+unfolding songAnswer songWritten
+returns-2 c = (simp (c .before .if1 .left, c .if2 .taken), simp (c .before .if1 .left, c .if2 .taken))
+
+start-requires : tie.Need-start-requires Inv-loop μ-loop
+start-requires c κs = search needs
+
+loop-holds : tie.Need-loop-holds Inv-loop μ-loop
+loop-holds c = turn-first _ _ _ _ (c .before .before .before .if1 .left) (c .before .before .if2 .left) (c .before .start .ensures)
+
+song-byte-requires : tie.Need-song-byte-requires Inv-loop μ-loop
+song-byte-requires c κs = search needs
+
+slice-write-song : tie.Need-slice-write-song Inv-loop μ-loop
+slice-write-song c =
+    let l = c .before .before .loop in
+    let t = c .before .loop-test .taken in
+    let r = l .inv .room in
+    let s = l .inv .same in
+    omega arith
+
+byte-requires : tie.Need-byte-requires Inv-loop μ-loop
+byte-requires c κs = search needs
+
+theft-requires : tie.Need-theft-requires Inv-loop μ-loop
+theft-requires c κs = search needs
+
+add-thefts : tie.Need-add-thefts Inv-loop μ-loop
+add-thefts c =
+    let l = c .before .before .before .before .loop in
+    let t = c .before .before .before .loop-test .taken in
+    let r = l .inv .few in
+    let k = l .inv .less in
+    let e = c .theft .ensures .1 in
+    omega arith
+
+add-i : tie.Need-add-i Inv-loop μ-loop
+add-i c =
+    let l = c .before .before .before .before .before .loop in
+    let t = c .before .before .before .before .loop-test .taken in
+    let r = l .inv .few in
+    omega arith
+
+loop-less : tie.Need-loop-less Inv-loop μ-loop
+loop-less c = search needs
+
+loop-again : tie.Need-loop-again Inv-loop μ-loop
+loop-again c =
+    let l = c .before .before .before .before .before .loop in
+    turn-next _ _ _ _ _ _ _ (l .inv) (c .before .before .before .before .loop-test .taken) _ (c .before .before .before .song-byte .ensures) _ (c .before .before .byte .ensures) _ (c .before .theft .ensures .0)
+
+same-length : tie.Need-same-length Inv-loop μ-loop
+same-length c = c .before .loop .inv .same
+
+returns-3 : tie.Need-returns-3 Inv-loop μ-loop
+returns-3 c = turn-last _ _ _ _ _ _ _ (c .before .loop .inv) (c .loop-test .left)
+
+pub write-song-spec : {M : Type 1} → statement M
+write-song-spec =
+    tie.close
+    (tie.spec
+    Inv-loop
+    μ-loop
+    returns
+    returns-2
+    start-requires
+    loop-holds
+    song-byte-requires
+    slice-write-song
+    byte-requires
+    theft-requires
+    add-thefts
+    add-i
+    loop-less
+    loop-again
+    same-length
+    returns-3)
