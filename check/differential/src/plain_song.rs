@@ -5,7 +5,7 @@
 
 use crate::hardest_song::{Call, Memory};
 use crate::plain::mistakes;
-use crate::reference;
+use paper::{Answer, Device, Was};
 use proved::SongAnswer;
 
 mistakes! {
@@ -89,12 +89,13 @@ mistakes! {
     NoTheftInTheFirstSongThatHasOne,
     StatusNotCounted,
     StatusCountedTwice,
-    RoundedUp,
-    PNotTakenOff,
     OneGeneratorLess,
     OneGeneratorMore,
     P1ForEveryP,
     P64ForEveryP,
+    ReleaseCounted,
+    NumberElevenCounted,
+    EveryNoteCounted,
     NegativeWraps,
     NegativeIsOne,
     NothingIsAllBits,
@@ -107,9 +108,6 @@ mistakes! {
     TheftsHalved,
     TheftsNeverCounted,
     TheftsOfTheLength,
-    TheftsOfOneByteMore,
-    TheftsOfOneByteLess,
-    BytesOfTheThefts,
     // The song: notes.
     Velocity0,
     VelocityOfTheKey,
@@ -396,14 +394,33 @@ impl PlainSong {
 /// The count.
 impl PlainSong {
     fn thefts(&self, call: Call, song: &[u8]) -> u32 {
+        let generators = match self.mistake {
+            Some(Mistake::OneGeneratorLess) => call.polyphony.max(2) - 1,
+            Some(Mistake::OneGeneratorMore) => call.polyphony.min(63) + 1,
+            Some(Mistake::P1ForEveryP) => 1,
+            Some(Mistake::P64ForEveryP) => 64,
+            _ => call.polyphony,
+        };
         let counted = match self.count {
-            Count::ByPlaying => reference::thefts(call.polyphony, song),
-            Count::ByTheFormula => formula(call.polyphony, call.n),
+            Count::ByPlaying => self.played(generators, song),
+            Count::ByTheFormula => formula(generators, call.n),
         };
         match self.mistake {
             Some(mistake) => miscounted(mistake, counted, call),
             None => counted,
         }
+    }
+
+    /// "The thefts counted while playing it."
+    fn played(&self, polyphony: u8, song: &[u8]) -> u32 {
+        let (mut device, _) = Device::start(polyphony, 0);
+        let answers = song.iter().map(|&byte| device.byte(byte));
+        let counts = |answer: &Answer| match (self.mistake, *answer) {
+            (Some(Mistake::ReleaseCounted), Answer::Note { was, .. }) => was != Was::Idle,
+            (Some(Mistake::NumberElevenCounted), Answer::NoteRefused { .. }) => true,
+            (_, answer) => answer.is_theft(),
+        };
+        answers.filter(counts).count() as u32
     }
 }
 
@@ -423,14 +440,9 @@ fn miscounted(mistake: Mistake, counted: u32, call: Call) -> u32 {
         Mistake::OneTheftLessInTheLongest if n == LONGEST => counted - 1,
         Mistake::OneTheftWhereThereIsNone => counted.max(1),
         Mistake::NoTheftInTheFirstSongThatHasOne if n == 2 * p + 3 => 0,
+        Mistake::EveryNoteCounted => notes as u32,
         Mistake::StatusNotCounted => less(n / 2, p),
         Mistake::StatusCountedTwice => less(n.saturating_sub(2) / 2, p),
-        Mistake::RoundedUp => less(n.saturating_sub(1).div_ceil(2), p),
-        Mistake::PNotTakenOff => notes as u32,
-        Mistake::OneGeneratorLess => less(notes, p - 1),
-        Mistake::OneGeneratorMore => less(notes, p + 1),
-        Mistake::P1ForEveryP => less(notes, 1),
-        Mistake::P64ForEveryP => less(notes, 64),
         Mistake::NegativeWraps => notes.wrapping_sub(p) as u32,
         Mistake::NegativeIsOne if notes < p => 1,
         Mistake::NothingIsAllBits if n == 0 => u32::MAX,
@@ -443,9 +455,6 @@ fn miscounted(mistake: Mistake, counted: u32, call: Call) -> u32 {
         Mistake::TheftsHalved => counted / 2,
         Mistake::TheftsNeverCounted => 0,
         Mistake::TheftsOfTheLength => formula(polyphony, length),
-        Mistake::TheftsOfOneByteMore => formula(polyphony, n + 1),
-        Mistake::TheftsOfOneByteLess => formula(polyphony, n.saturating_sub(1)),
-        Mistake::BytesOfTheThefts => 2 * counted,
         _ => counted,
     }
 }
@@ -492,7 +501,7 @@ impl PlainSong {
         };
         match self.mistake {
             Some(Mistake::NoRunningStatus | Mistake::ChannelsInTurn | Mistake::NoStatus) => vec![],
-            Some(Mistake::DrumsFirst) => {
+            Some(Mistake::DrumsFirst | Mistake::NumberElevenCounted) => {
                 let drums = (0..polyphony).flat_map(|drum| [82 + drum % 46, 0x40]);
                 [0x99].into_iter().chain(drums).chain([0x90]).collect()
             }
@@ -525,7 +534,8 @@ impl PlainSong {
 
     fn key(&self, note: usize) -> usize {
         match self.mistake {
-            Some(Mistake::OneKey) => 60,
+            // Releases come to as many as the thefts of the right song.
+            Some(Mistake::OneKey | Mistake::ReleaseCounted) => 60,
             Some(Mistake::TwoKeys) => note % 2,
             Some(Mistake::KeysOfAnOctave) => note % 12,
             Some(Mistake::SixtyThreeKeys) => note % 63,
