@@ -3,3 +3,4 @@ pub mod Counts
 pub mod Worst
 pub mod Line
 pub mod Reached
+pub mod Witness

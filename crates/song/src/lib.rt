@@ -32,7 +32,7 @@ fn song_byte(i: usize) -> u8
     if i % 2 == 1 {
         return ((i - 1) / 2 % 128) as u8;
     }
-    64
+    0x40
 }
 
 fn stolen(w: Was) -> u32
