@@ -16,6 +16,7 @@ struct muntinorris_share_answer right_share(const struct muntinorris_device *d, 
 struct muntinorris_pitch_answer right_pitch(uint8_t key, uint8_t sensitivity, uint16_t bend);
 struct muntinorris_gains_answer right_gains(uint8_t expression, uint8_t volume, uint8_t pan);
 struct muntinorris_gains_answer right_channel_gains(const struct muntinorris_channel *channel);
+struct muntinorris_song_answer right_write_song(uint8_t polyphony, size_t n, uint8_t *song, size_t length);
 
 static unsigned long calls;
 
@@ -148,5 +149,25 @@ struct muntinorris_gains_answer muntinorris_channel_gains(const struct muntinorr
         change(&a);
     if (is_meant("written channel") || (lone && is_meant("written lone channel")))
         change((void *)channel);
+    return a;
+}
+
+/* As a pitch. AT counts from the beginning of the buffer, and from its end where memory behind it is meant, from the song's end where the buffer behind that is. */
+struct muntinorris_song_answer muntinorris_write_song(uint8_t polyphony, size_t n, uint8_t *song, size_t length)
+{
+    struct muntinorris_song_answer a = right_write_song(polyphony, n, song, length);
+    long at = getenv("AT") ? atol(getenv("AT")) : 0;
+    size_t left = a.number == 0 ? length - n : 0;
+
+    if (length > 0 && is_meant(a.number == 0 ? "memory by a song" : "memory by a refused song"))
+        change(at < 0 ? song : song + length);
+    if (a.number == 0 && at >= 0 && (size_t)at < n && is_meant("written song"))
+        change(song);
+    if (at >= 0 && (size_t)at < left && is_meant("buffer behind a song"))
+        change(song + n);
+    if (a.number != 0 && at >= 0 && (size_t)at < length && is_meant(a.number == 1 ? "buffer of a song of a wrong P" : "buffer of a song too long"))
+        change(song);
+    if (is_meant(a.number == 0 ? "song" : a.number == 1 ? "song of a wrong P" : "song too long"))
+        change(&a);
     return a;
 }

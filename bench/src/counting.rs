@@ -22,9 +22,9 @@ enum Target {
     Pitch,
     /// Gains at most 120.
     Gains,
-    /// Nothing, as for a refused pitch.
+    /// Nothing, as for a refused pitch or song.
     None,
-    /// The mean over a stream.
+    /// The mean over a stream or a song.
     Mean,
 }
 
@@ -326,6 +326,35 @@ pub fn run_channels<S: Subject>() {
     black_box(device.channel_gains(channel));
     bench_mark();
     print_line("gains of a channel", 1, Target::Gains);
+}
+
+/// P, n and the buffer's length of the songs that are counted; of a whole song the mean of its bytes.
+const SONGS: [(&str, (u8, usize, usize), Target); 4] = [
+    (
+        "mean of the hardest song, P 64",
+        (64, LONGEST, LONGEST),
+        Target::Mean,
+    ),
+    (
+        "mean of the hardest song, P 1",
+        (1, LONGEST, LONGEST),
+        Target::Mean,
+    ),
+    ("song, number 1", (65, LONGEST, LONGEST), Target::None),
+    ("song, number 25", (64, LONGEST, LONGEST - 1), Target::None),
+];
+const LONGEST: usize = 65_536;
+
+/// Songs, in a run of their own: a side plays them on a device, by a call that is counted elsewhere.
+pub fn run_songs<S: Subject>() {
+    for (name, call, target) in SONGS {
+        let (polyphony, n, length) = black_box(call);
+        let mut buffer = vec![0; length];
+        bench_mark();
+        black_box(S::write_song(polyphony, n, &mut buffer));
+        bench_mark();
+        print_line(name, n, target);
+    }
 }
 
 /// So many random cases are counted for the dearest of their kind.

@@ -1,7 +1,7 @@
-//! `bench`: what the proved library costs, beside the second implementation, on the same streams, pitches and gains in one run.
+//! `bench`: what the proved library costs, beside the second implementation, on the same streams, pitches and gains, and on songs of one length, in one run.
 //!
 //! Without arguments it prints times, and fails if a target is missed or the sides answer differently. `--count proved` and `--count paper`, and
-//! `--count-channels` with the same, are for the script `count`, which runs them under callgrind and prints instructions.
+//! `--count-channels` and `--count-songs` with the same, are for the script `count`, which runs them under callgrind and prints instructions.
 
 mod counting;
 mod streams;
@@ -23,8 +23,10 @@ fn main() -> ExitCode {
         ["--count", "paper"] => counting::run::<subject::Paper>(),
         ["--count-channels", "proved"] => counting::run_channels::<subject::Proved>(),
         ["--count-channels", "paper"] => counting::run_channels::<subject::Paper>(),
+        ["--count-songs", "proved"] => counting::run_songs::<subject::Proved>(),
+        ["--count-songs", "paper"] => counting::run_songs::<subject::Paper>(),
         _ => {
-            eprintln!("usage: bench [--count proved|paper] [--count-channels proved|paper]");
+            eprintln!("usage: bench [--count | --count-channels | --count-songs proved|paper]");
             return ExitCode::FAILURE;
         }
     }

@@ -1,5 +1,5 @@
-//! What is measured: an implementation that takes bytes and reports and gives pitches and gains through calls that are
-//! not inlined, so that both sides pay for a call.
+//! What is measured: an implementation that takes bytes and reports, gives pitches and gains and writes songs through calls
+//! that are not inlined, so that both sides pay for a call.
 
 /// An implementation with its answers reduced to what the measurement needs.
 pub trait Subject: Clone {
@@ -13,6 +13,8 @@ pub trait Subject: Clone {
     fn gains(expression: u8, volume: u8, pan: u8) -> (f32, f32);
     /// The gains of a channel on the wire, 0 to 15.
     fn channel_gains(&self, channel: usize) -> (f32, f32);
+    /// Writes the hardest song of n bytes; its thefts, 0 if it is refused.
+    fn write_song(polyphony: u8, n: usize, buffer: &mut [u8]) -> u32;
 }
 
 #[derive(Clone)]
@@ -52,6 +54,11 @@ impl Subject for Proved {
         let answer = self.0.gains(channel);
         (answer.left, answer.right)
     }
+
+    #[inline]
+    fn write_song(polyphony: u8, n: usize, buffer: &mut [u8]) -> u32 {
+        proved::write_song(polyphony, n, buffer).thefts
+    }
 }
 
 #[derive(Clone)]
@@ -88,6 +95,12 @@ fn paper_channel_gains(channel: &paper::Channel) -> Result<(f32, f32), paper::Nu
     paper::float_gains(channel.expression, channel.volume, channel.pan)
 }
 
+#[no_mangle]
+#[inline(never)]
+fn paper_write_song(polyphony: u8, n: usize, buffer: &mut [u8]) -> Result<u32, paper::Number> {
+    paper::write_song(polyphony, n, buffer)
+}
+
 impl Subject for Paper {
     fn start(polyphony: u8) -> Paper {
         Paper(paper::Device::start(polyphony, 0).0)
@@ -120,5 +133,10 @@ impl Subject for Paper {
     #[inline]
     fn channel_gains(&self, channel: usize) -> (f32, f32) {
         paper_channel_gains(&self.0.channels()[channel]).unwrap_or((0.0, 0.0))
+    }
+
+    #[inline]
+    fn write_song(polyphony: u8, n: usize, buffer: &mut [u8]) -> u32 {
+        paper_write_song(polyphony, n, buffer).unwrap_or(0)
     }
 }

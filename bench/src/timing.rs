@@ -1,5 +1,5 @@
-//! Times both implementations on each stream, on pitches and on gains, and prints what a byte, a pitch or a call for gains
-//! costs.
+//! Times both implementations on each stream, on pitches, on gains and on a song, and prints what a byte, a pitch, a call for
+//! gains or the whole song costs.
 //!
 //! The stream is cut into slices, and the two sides take each slice in alternation; of the times of a slice over several
 //! turns the median counts. So a machine that is busy with something else disturbs both sides alike, and little.
@@ -15,6 +15,8 @@ const TURNS: usize = 15;
 const SLICE: usize = 1000;
 /// "Dense notes at most 8 times the reference's time."
 const TARGET: f64 = 8.0;
+/// The longest song in at most so many milliseconds.
+const SONG_TARGET: f64 = 40.0;
 
 /// Prints a row for each stream; false if a target was missed.
 pub fn run() -> bool {
@@ -28,7 +30,8 @@ pub fn run() -> bool {
     let rows: Vec<bool> = streams::all().iter().map(print_row).collect();
     print_pitches();
     print_gains();
-    rows.into_iter().all(|met| met)
+    let song_met = print_song();
+    rows.into_iter().all(|met| met) && song_met
 }
 
 /// Prints what a stream costs; false if its target was missed.
@@ -136,6 +139,37 @@ fn time_gains<T>(calls: &[T], gains: impl Fn(&T) -> (f32, f32)) -> f64 {
         black_box(gains(black_box(call)));
     }
     clock.elapsed().as_secs_f64()
+}
+
+/// Prints what the longest song costs; false if its target was missed. The sides' songs are not the same.
+fn print_song() -> bool {
+    let mut buffer = vec![0; 65_536];
+    let (mut proved, mut paper) = (Vec::new(), Vec::new());
+    for _ in 0..TURNS {
+        let (seconds, thefts) = time_song::<Proved>(&mut buffer);
+        proved.push(seconds);
+        let (seconds, thefts_too) = time_song::<Paper>(&mut buffer);
+        paper.push(seconds);
+        assert_eq!(thefts, thefts_too, "the two sides answer differently");
+    }
+    let [proved, paper] = [proved, paper].map(|turns| median(turns) * 1e3);
+    let met = proved <= SONG_TARGET;
+    println!(
+        "{:30} {proved:>8.2} {paper:>8.2} {:>7.2} {:>8} {:>8}  {SONG_TARGET} ms {}",
+        "song of 65,536 bytes, P 64, ms",
+        proved / paper,
+        "-",
+        "-",
+        if met { "met" } else { "MISSED" }
+    );
+    met
+}
+
+/// The seconds for a song at P 64 that fills the buffer, and its thefts.
+fn time_song<S: Subject>(buffer: &mut [u8]) -> (f64, u32) {
+    let clock = Instant::now();
+    let thefts = S::write_song(black_box(64), buffer.len(), buffer);
+    (clock.elapsed().as_secs_f64(), thefts)
 }
 
 /// A device with levels of its own on every channel.

@@ -1,10 +1,10 @@
 //! "The note book of demand 3": which notes the device owes, kept from messages, reports and answers alone.
 //!
-//! A book can be told to forget one of its rules (a `Slip`), to show that the checks would notice.
+//! A book can be told to forget one of its rules or to have one wrong (a `Slip`), to show that the checks would notice.
 
 use crate::drums::{excludes, DRUM_CHANNEL};
 use crate::split::Message;
-use paper::{Answer, MOST_GENERATORS};
+use paper::{most_thefts, Answer, MOST_GENERATORS};
 
 #[derive(Clone, Copy, Debug, PartialEq, Eq)]
 pub struct Note {
@@ -15,7 +15,7 @@ pub struct Note {
     pub down: bool,
 }
 
-/// A rule that a wrong book forgets.
+/// A rule that a wrong book forgets, or ticket 14's bound in a wrong form.
 #[derive(Clone, Copy, Debug, PartialEq, Eq)]
 pub enum Slip {
     NoteOff,
@@ -28,6 +28,9 @@ pub enum Slip {
     Report,
     NewTable,
     Reset,
+    OneTheftLess,
+    OneByteLess,
+    ThreeBytesANote,
 }
 
 pub const SLIPS: [Slip; 10] = [
@@ -42,6 +45,8 @@ pub const SLIPS: [Slip; 10] = [
     Slip::NewTable,
     Slip::Reset,
 ];
+
+pub const WRONG_BOUNDS: [Slip; 3] = [Slip::OneTheftLess, Slip::OneByteLess, Slip::ThreeBytesANote];
 
 #[derive(Clone, Debug)]
 pub struct Book {
@@ -108,6 +113,16 @@ impl Book {
     pub fn count_at(&self, channel: u8, key: u8) -> usize {
         let kept = |note: &Note| !Book::ended_by(channel, key, *note);
         self.notes_of(channel).filter(kept).count() + 1
+    }
+
+    /// Ticket 14: "how many thefts can occur at most" in so many bytes from a fresh device.
+    pub fn most_thefts(&self, bytes: usize) -> usize {
+        match self.slip {
+            Some(Slip::OneTheftLess) => most_thefts(self.polyphony, bytes).saturating_sub(1),
+            Some(Slip::OneByteLess) => most_thefts(self.polyphony, bytes.saturating_sub(1)),
+            Some(Slip::ThreeBytesANote) => (bytes / 3).saturating_sub(self.polyphony.into()),
+            _ => most_thefts(self.polyphony, bytes),
+        }
     }
 
     /// A complete message and the answer to its last byte.

@@ -1,4 +1,4 @@
-//! Demand 3's claims, and that of the order of age, held against what ran.
+//! Demand 3's claims, that of the order of age, and ticket 14's of the most thefts, held against what ran.
 //!
 //! The book is kept beside the devices; nothing here looks into a device except to compare.
 
@@ -17,6 +17,17 @@ pub struct Exercised {
     pub within_share_and_full: u64,
     /// Thefts and refusals on unmasked channels.
     pub thefts_and_refusals: u64,
+    /// Bytes behind a fresh device and no report.
+    pub since_fresh: u64,
+    /// Of these, the ones up to which there were thefts, and as many as there can be.
+    pub at_most_thefts: u64,
+}
+
+/// What came since the device was fresh, without a report.
+#[derive(Clone, Copy, Default)]
+struct SinceFresh {
+    bytes: usize,
+    thefts: usize,
 }
 
 /// The book and what the claims need beside it, for one list of events.
@@ -28,6 +39,8 @@ pub struct Claims {
     /// When each generator's last *note* answer came: 0 for never.
     last_note: [u64; MOST_GENERATORS],
     clock: u64,
+    /// None behind a report, until a reset.
+    since_fresh: Option<SinceFresh>,
 }
 
 impl Claims {
@@ -43,6 +56,7 @@ impl Claims {
             within_share: [false; 16],
             last_note: [0; MOST_GENERATORS],
             clock: 0,
+            since_fresh: Some(SinceFresh::default()),
         }
     }
 
@@ -58,14 +72,37 @@ impl Claims {
             self.last_note[usize::from(generator)] = self.clock;
         }
         match event {
-            Event::Report(generator) => self.book.report(generator, answer),
+            Event::Report(generator) => {
+                self.since_fresh = None;
+                self.book.report(generator, answer);
+            }
             Event::Byte(byte) => {
+                self.most_thefts(answer, exercised)?;
                 if let Some(message) = self.splitter.byte(byte) {
                     return self.message(&message, answer, exercised);
                 }
             }
         }
         Ok(())
+    }
+
+    /// Ticket 14: "no song of n bytes may do worse", for every n up to this byte.
+    fn most_thefts(&mut self, answer: Answer, exercised: &mut Exercised) -> Result<(), String> {
+        let Some(since) = &mut self.since_fresh else {
+            return Ok(());
+        };
+        since.bytes += 1;
+        since.thefts += usize::from(answer.is_theft());
+        let most = self.book.most_thefts(since.bytes);
+        exercised.since_fresh += 1;
+        exercised.at_most_thefts += u64::from(since.thefts == most && most > 0);
+        if since.thefts <= most {
+            return Ok(());
+        }
+        Err(format!(
+            "ticket 14: {} thefts in {} bytes from a fresh device, which can make {most} at most",
+            since.thefts, since.bytes
+        ))
     }
 
     fn message(
@@ -89,13 +126,21 @@ impl Claims {
         let had = note_on.map(|_| self.book.clone());
         let seen = self.book.message(message, answer);
         match (seen, note_on) {
-            (Seen::Boundary, _) => self.within_share = [false; 16],
+            (Seen::Boundary, _) => self.boundary(message),
             (Seen::Stolen(stolen), _) => self.not_within_share(stolen)?,
             _ => {}
         }
         match (note_on, had) {
             (Some(note_on), Some(had)) => justified(&had, note_on, answer, seen, exercised),
             _ => Ok(()),
+        }
+    }
+
+    /// A run ends; behind a reset the record is "that of a fresh start".
+    fn boundary(&mut self, message: &Message) {
+        self.within_share = [false; 16];
+        if matches!(message, Message::SysEx(bytes) if bytes.first() == Some(&0x7E)) {
+            self.since_fresh = Some(SinceFresh::default());
         }
     }
 

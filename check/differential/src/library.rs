@@ -4,13 +4,14 @@
 //! idle": what breaks such a sentence is a difference as well.
 
 use crate::gains::{self, Answered, Levels};
+use crate::hardest_song::{self, Memory};
 use crate::pitches::Call;
 use crate::record::{Given, Implementation, Items, Malformed, Record, SysExBytes, IDLE};
 use paper::{Answer, Entry, GeneratorView, Number, Pitch, Progress, State, Was};
-use proved::{Channel, Device, RECORD_BYTES};
+use proved::{Channel, Device, SongAnswer, RECORD_BYTES};
 use random::Random;
 
-const NUMBERS: [Number; 16] = [
+const NUMBERS: [Number; 17] = [
     Number::PolyphonyOutOfRange,
     Number::IdOutOfRange,
     Number::StrayData,
@@ -27,6 +28,7 @@ const NUMBERS: [Number; 16] = [
     Number::NoSuchChannel,
     Number::PitchOutOfRange,
     Number::LevelOutOfRange,
+    Number::SongTooLong,
 ];
 
 /// What the memory holds before a start, which "makes the record, whatever the memory held before", and beside it.
@@ -306,6 +308,40 @@ pub fn channel_gains(channel: Channel) -> Answered {
         return Err(Malformed(format!("other numbers, {:?}", lent.channel)));
     }
     gains_of(raw)
+}
+
+/// The hardest song, written to the memory's buffer.
+pub fn write_song(call: hardest_song::Call, memory: &mut Memory) -> SongAnswer {
+    proved::write_song(call.polyphony, call.n, memory.buffer())
+}
+
+/// The thefts of a song, or a number with no theft: "a refusal reports 0 thefts".
+pub fn song_of(raw: SongAnswer) -> Given<Result<u32, Number>> {
+    match number_of(raw.number) {
+        None if raw.number == 0 => Ok(Ok(raw.thefts)),
+        Some(number) if raw.thefts == 0 => Ok(Err(number)),
+        _ => Err(Malformed(format!("{raw:?}"))),
+    }
+}
+
+/// The thefts of these bytes on a fresh device.
+pub fn thefts(polyphony: u8, bytes: &[u8]) -> u32 {
+    thefts_up_to_each(polyphony, bytes).last().unwrap_or(0)
+}
+
+/// The thefts up to each of these bytes on a fresh device.
+pub fn thefts_up_to_each(polyphony: u8, bytes: &[u8]) -> impl Iterator<Item = u32> + '_ {
+    let mut device = Device::memory([RUBBISH; RECORD_BYTES]);
+    device.start(polyphony, 0);
+    bytes.iter().scan(0, move |thefts, &byte| {
+        *thefts += u32::from(is_theft(device.byte(byte)));
+        Some(*thefts)
+    })
+}
+
+/// A note whose generator was busy.
+pub fn is_theft(answer: proved::Answer) -> bool {
+    answer.what == proved::NOTE && answer.was == proved::WAS_STOLEN
 }
 
 impl Implementation for Lent {

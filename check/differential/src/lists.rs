@@ -24,6 +24,8 @@ pub enum Kind {
     Faults,
     /// The song with bytes changed, put in and left out.
     Song,
+    /// Notes that all but steal, by running status, with bytes changed, put in and left out; without reports.
+    Thefts,
     /// Messages around a SysEx of about 100,000 bytes with real-time bytes within.
     LongSysEx,
 }
@@ -36,13 +38,14 @@ pub struct List {
 }
 
 /// How often each kind of list comes, but for the long one: it is every 200th list.
-const KINDS: [(usize, Kind); 6] = [
+const KINDS: [(usize, Kind); 7] = [
     (4, Kind::Noise),
     (4, Kind::Playing),
     (3, Kind::Pedals),
     (3, Kind::Tables),
     (3, Kind::Faults),
     (3, Kind::Song),
+    (2, Kind::Thefts),
 ];
 const LONG_EVERY: u64 = 200;
 
@@ -66,21 +69,26 @@ impl List {
         };
         let (polyphony, id) = start(random);
         let length = 500 + random.below(8000);
-        let events = match kind {
-            Kind::Noise => noise(random, length, polyphony),
-            Kind::Playing => messages(random, length, (polyphony, id), PLAYING),
-            Kind::Pedals => messages(random, length, (polyphony, id), PEDALS),
-            Kind::Tables => messages(random, length, (polyphony, id), TABLES),
-            Kind::Faults => messages(random, length, (polyphony, id), FAULTS),
-            Kind::Song => mutated_songs(random, length, polyphony),
-            Kind::LongSysEx => long_sysex(random, (polyphony, id)),
-        };
         List {
             kind,
             polyphony,
             id,
-            events,
+            events: events(random, kind, length, (polyphony, id)),
         }
+    }
+}
+
+/// Events of a kind for a device that started so; the long SysEx has its own length.
+pub fn events(random: &mut Random, kind: Kind, length: usize, start: (u8, u8)) -> Vec<Event> {
+    match kind {
+        Kind::Noise => noise(random, length, start.0),
+        Kind::Playing => messages(random, length, start, PLAYING),
+        Kind::Pedals => messages(random, length, start, PEDALS),
+        Kind::Tables => messages(random, length, start, TABLES),
+        Kind::Faults => messages(random, length, start, FAULTS),
+        Kind::Song => mutated_songs(random, length, start.0),
+        Kind::Thefts => thefts(random, length),
+        Kind::LongSysEx => long_sysex(random, start),
     }
 }
 
@@ -168,6 +176,34 @@ fn mutate(random: &mut Random, byte: u8, events: &mut Vec<Event>) {
         // A byte put in before it.
         _ => events.extend([Event::Byte(random.byte()), Event::Byte(byte)]),
     }
+}
+
+/// A status and then keys in turn, up or down, more of them than generators or not: each steals, but for what is changed.
+fn thefts(random: &mut Random, length: usize) -> Vec<Event> {
+    let status = 0x90 | random.below(16) as u8;
+    let (first, keys) = (random.below(128), random.pick(&[128, 128, 117, 65, 64, 12]));
+    let seldom = random.pick(&[10, 100, 1000, 10_000]);
+    let down = random.one_in(2);
+    let mut events = vec![Event::Byte(status)];
+    for note in 0..length / 2 {
+        let turn = if down {
+            keys - 1 - note % keys
+        } else {
+            note % keys
+        };
+        for byte in [((first + turn) % 128) as u8, 1 + random.below(127) as u8] {
+            if !random.one_in(seldom) {
+                events.push(Event::Byte(byte));
+                continue;
+            }
+            mutate(random, byte, &mut events);
+            // Mostly, so that not all the rest is stray data where the change took the status.
+            if !random.one_in(4) {
+                events.push(Event::Byte(status));
+            }
+        }
+    }
+    events
 }
 
 fn long_sysex(random: &mut Random, start: (u8, u8)) -> Vec<Event> {

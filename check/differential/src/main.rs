@@ -1,5 +1,5 @@
-//! `differential`: the proved library and the second implementation on the same events, and asked for the same pitches
-//! and gains.
+//! `differential`: the proved library and the second implementation on the same events, and asked for the same pitches,
+//! gains and songs.
 //!
 //! `--events N` and `--seed S` choose the run; `--all-pitches` asks for every pitch there is, not for a sample;
 //! `--self-test` shows instead that the comparison finds wrong variants. The exit code is 0 only if nothing differed
@@ -12,12 +12,16 @@ mod compare;
 mod drums;
 mod gains;
 mod gains_self_test;
+mod hardest_song;
+mod hardest_song_self_test;
 mod library;
 mod lists;
+mod most_thefts;
 mod pitches;
 mod plain;
 mod plain_gains;
 mod plain_pitch;
+mod plain_song;
 mod record;
 mod reference;
 mod self_test;
@@ -28,10 +32,13 @@ mod writer;
 
 use compare::{Comparison, Reached};
 use gains::Compared;
+use hardest_song::HeldAgainst;
+use most_thefts::Held;
 use paper::Number;
 use random::Random;
 use std::process::ExitCode;
 use std::time::Instant;
+use tally::Tally;
 
 struct Options {
     events: u64,
@@ -114,11 +121,16 @@ fn differential(options: &Options) -> Result<(), String> {
         Number::LevelOutOfRange,
         gains()? + channel_gains(options.seed)?,
     );
+    songs(tally)?;
+    let held = most_thefts(options.seed)?;
     print(&reached, seconds);
     rubbish(options.seed)?;
     let mut missing = reached.tally.missing();
     if reached.claims.within_share_and_full == 0 || reached.claims.thefts_and_refusals == 0 {
         missing.push("a case of demand 3".to_string());
+    }
+    if reached.claims.at_most_thefts == 0 || held.at_the_bound == 0 {
+        missing.push("the most thefts of ticket 14".to_string());
     }
     if !missing.is_empty() {
         return Err(format!("never reached: {}", missing.join(", ")));
@@ -178,6 +190,42 @@ fn print_gains(what: &str, compared: Compared, clock: Instant) {
     );
 }
 
+/// The hardest songs of the library, and those of the second implementation on the library's devices.
+fn songs(tally: &mut Tally) -> Result<(), String> {
+    let clock = Instant::now();
+    let compared = hardest_song::compare(
+        hardest_song::calls(),
+        HeldAgainst::DocumentedBytes,
+        library::write_song,
+    )?;
+    let nowhere = hardest_song::nowhere()?;
+    let played = hardest_song::play_those_of_the_reference()?;
+    tally.refused(Number::PolyphonyOutOfRange, compared.bad_polyphony);
+    tally.refused(Number::SongTooLong, compared.too_long);
+    println!(
+        "{} songs compared, {} of them refused, no difference; {} thefts; {nowhere} calls without a buffer; {played} songs of the second implementation played, {:.1} s",
+        compared.songs,
+        compared.bad_polyphony + compared.too_long,
+        compared.thefts,
+        clock.elapsed().as_secs_f64()
+    );
+    Ok(())
+}
+
+/// Lists without reports, from fresh devices of every P.
+fn most_thefts(seed: u64) -> Result<Held, String> {
+    let clock = Instant::now();
+    let held = most_thefts::hold(seed, paper::most_thefts)?;
+    println!(
+        "{} lists without reports, {} bytes: never more thefts than ticket 14 says, and as many after {} bytes, {:.1} s",
+        held.lists,
+        held.bytes,
+        held.at_the_bound,
+        clock.elapsed().as_secs_f64()
+    );
+    Ok(held)
+}
+
 /// Records that no start made.
 fn rubbish(seed: u64) -> Result<(), String> {
     const RECORDS: usize = 20_000;
@@ -199,5 +247,9 @@ fn print(reached: &Reached, seconds: f64) {
         reached.claims.within_share,
         reached.claims.within_share_and_full,
         reached.claims.thefts_and_refusals
+    );
+    println!(
+        "ticket 14: {} bytes from fresh devices without reports, {} of them with as many thefts before as there can be",
+        reached.claims.since_fresh, reached.claims.at_most_thefts
     );
 }

@@ -2,6 +2,7 @@
 
 use crate::channel_gains::{EXPRESSION, PAN, VOLUME};
 use crate::gains::{self, Answered, Levels};
+use crate::hardest_song;
 use crate::pitches::Call;
 use crate::record::{Given, Implementation, Items, Record, SysExBytes, IDLE};
 use paper::{
@@ -24,6 +25,19 @@ pub fn gains((expression, volume, pan): gains::Call) -> Answered {
 /// The gains of a channel's numbers.
 pub fn channel_gains(channel: proved::Channel) -> Answered {
     gains((channel[EXPRESSION], channel[VOLUME], channel[PAN]))
+}
+
+/// The thefts of the hardest song, or the number of a refused call. The song itself is another than the library's.
+pub fn song(call: hardest_song::Call) -> Given<Result<u32, Number>> {
+    let mut buffer = vec![0; call.length];
+    Ok(paper::write_song(call.polyphony, call.n, &mut buffer))
+}
+
+/// The thefts of these bytes on a fresh device.
+pub fn thefts(polyphony: u8, bytes: &[u8]) -> u32 {
+    let (mut device, _) = Device::start(polyphony, 0);
+    let stolen = |&&byte: &&u8| device.byte(byte).is_theft();
+    bytes.iter().filter(stolen).count() as u32
 }
 
 /// The bytes of a SysEx that overflowed count one more than were kept.

@@ -1,10 +1,10 @@
 //! Shows that the comparison can fail: deliberately wrong implementations and books must be found.
 
-use crate::book::SLIPS;
+use crate::book::{Slip, SLIPS, WRONG_BOUNDS};
 use crate::compare::{Comparison, Failure};
 use crate::plain::{Mistake, Plain, MISTAKES};
 use crate::plain_pitch::{self, PlainPitch};
-use crate::{gains_self_test, library, pitches, reference};
+use crate::{gains_self_test, hardest_song_self_test, library, pitches, reference};
 use random::Random;
 
 /// Every wrong variant must be found within so many events.
@@ -46,17 +46,17 @@ pub fn run(seed: u64) -> Vec<String> {
         complaints.extend(expect(&name, claim, both_sides(mistake, seed)));
     }
     for slip in SLIPS {
-        let comparison = Comparison {
-            start_a: reference::start,
-            start_b: reference::start,
-            slip: Some(slip),
-        };
         let name = format!("book without {slip:?}");
-        complaints.extend(expect(&name, "demand 3", comparison.run(seed, WITHIN).1));
+        complaints.extend(expect(&name, "demand 3", wrong_book(slip, seed)));
+    }
+    for slip in WRONG_BOUNDS {
+        let name = format!("bound with {slip:?}");
+        complaints.extend(expect(&name, "ticket 14", wrong_book(slip, seed)));
     }
     complaints.extend(wrong_pitches(seed));
     complaints.extend(wrong_entries(seed));
     complaints.extend(gains_self_test::run(seed));
+    complaints.extend(hardest_song_self_test::run(seed));
     complaints
 }
 
@@ -114,6 +114,15 @@ fn both_sides(mistake: Mistake, seed: u64) -> Option<Failure> {
         start_a: |polyphony, id| Plain::start(Some(mistake), polyphony, id),
         start_b: |polyphony, id| Plain::start(Some(mistake), polyphony, id),
         slip: None,
+    };
+    comparison.run(seed, WITHIN).1
+}
+
+fn wrong_book(slip: Slip, seed: u64) -> Option<Failure> {
+    let comparison = Comparison {
+        start_a: reference::start,
+        start_b: reference::start,
+        slip: Some(slip),
     };
     comparison.run(seed, WITHIN).1
 }

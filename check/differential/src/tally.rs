@@ -17,8 +17,8 @@ const REPORTS: [&str; 3] = [
     "report of a releasing one",
 ];
 
-/// Document 01's numbers, each one place before its own, and those of pitches and gains behind them.
-const NUMBERS: [(Number, &str); 16] = [
+/// Document 01's numbers, each one place before its own, and those of pitches, gains and songs behind them.
+const NUMBERS: [(Number, &str); 17] = [
     (Number::PolyphonyOutOfRange, "P not 1 to 64"),
     (Number::IdOutOfRange, "ID above 126"),
     (Number::StrayData, "stray data byte"),
@@ -35,10 +35,11 @@ const NUMBERS: [(Number, &str); 16] = [
     (Number::NoSuchChannel, "no such channel"),
     (Number::PitchOutOfRange, "pitch out of range"),
     (Number::LevelOutOfRange, "level above 127"),
+    (Number::SongTooLong, "song too long"),
 ];
 
 /// A place for each number, the highest included; those that nobody has stay 0.
-const PLACES: usize = 1 + Number::LevelOutOfRange as usize;
+const PLACES: usize = 1 + Number::SongTooLong as usize;
 
 #[derive(Clone, Debug, Default)]
 pub struct Tally {
@@ -47,7 +48,7 @@ pub struct Tally {
     reports: [u64; 3],
     /// Numbers that starts, bytes and reports answered.
     numbers: [u64; PLACES],
-    /// Numbers that queries, pitches and gains gave, apart: 12 has both.
+    /// Numbers that queries, pitches, gains and songs gave, apart: 1 and 12 have both.
     queries: [u64; PLACES],
 }
 
@@ -83,7 +84,7 @@ impl Tally {
         self.queries[number as usize] += 1;
     }
 
-    /// So many pitches or gains were refused, by this number.
+    /// So many pitches, gains or songs were refused, by this number.
     pub fn refused(&mut self, number: Number, count: u64) {
         self.queries[number as usize] += count;
     }
@@ -96,7 +97,8 @@ impl Tally {
             .collect()
     }
 
-    /// Each kind and number with its count. Number 14 comes of queries alone, 21 of pitches, 24 of gains, 12 of queries as well.
+    /// Each kind and number with its count. Number 14 comes of queries alone, 21 of pitches, 24 of gains, 25 of songs, 12 of queries
+    /// as well, 1 of songs as well.
     fn rows(&self) -> impl Iterator<Item = (String, u64)> + '_ {
         let row = |(number, words): (Number, &str), counts: &[u64; PLACES]| {
             let count = counts[number as usize];
@@ -109,8 +111,14 @@ impl Tally {
         let numbers = numbers.map(move |&named| row(named, &self.numbers));
         let query = |(name, count)| (format!("{name}, query"), count);
         let queries = [12, 14].map(|number| query(row(NUMBERS[number - 1], &self.queries)));
-        let others = [NUMBERS[14], NUMBERS[15]].map(|named| row(named, &self.queries));
-        kinds.chain(numbers).chain(queries).chain(others)
+        let song = |(name, count)| (format!("{name}, song"), count);
+        let songs = [song(row(NUMBERS[0], &self.queries))];
+        let others = [14, 15, 16].map(|at| row(NUMBERS[at], &self.queries));
+        kinds
+            .chain(numbers)
+            .chain(queries)
+            .chain(songs)
+            .chain(others)
     }
 }
 

@@ -1,4 +1,4 @@
-//! What a call answers: the paper's *note*, *done*, *none*, or one of its numbers 1 to 14; and the numbers of document 02's tickets 7 and 13.
+//! What a call answers: the paper's *note*, *done*, *none*, or one of its numbers 1 to 14; and the numbers of document 02's tickets 7, 13 and 14.
 
 /// "What the generator was" before a note took it.
 #[derive(Clone, Copy, Debug, PartialEq, Eq)]
@@ -8,7 +8,7 @@ pub enum Was {
     Stolen,
 }
 
-/// The table "Numbers and what they leave", and the numbers of a refused pitch and of refused gains.
+/// The table "Numbers and what they leave", and the numbers of a refused pitch, of refused gains and of a refused song.
 #[derive(Clone, Copy, Debug, PartialEq, Eq)]
 #[repr(u8)]
 pub enum Number {
@@ -28,6 +28,7 @@ pub enum Number {
     NoSuchChannel = 14,
     PitchOutOfRange = 21,
     LevelOutOfRange = 24,
+    SongTooLong = 25,
 }
 
 /// "The answer is *note*, *done*, *none*, or a number." Channels count from 1 to 16 here, as in the paper.
@@ -57,5 +58,16 @@ impl Answer {
             Answer::Refused(number) | Answer::NoteRefused { number, .. } => Some(number),
             _ => None,
         }
+    }
+
+    /// Did this note take the generator of a busy one? To take a releasing one is no theft, nor is number 11.
+    pub fn is_theft(self) -> bool {
+        matches!(
+            self,
+            Answer::Note {
+                was: Was::Stolen,
+                ..
+            }
+        )
     }
 }

@@ -1,5 +1,5 @@
-//! Document 01, "The note allocator of a scalable polyphony module", and tickets 7 and 13 of document 02, the pitch
-//! of a note and the gains of a channel, written by hand in plain Rust.
+//! Document 01, "The note allocator of a scalable polyphony module", and tickets 7, 13 and 14 of document 02, the pitch
+//! of a note, the gains of a channel and the hardest song, written by hand in plain Rust.
 //!
 //! This is a second implementation, made from the papers alone. It serves as the other side of the
 //! differential test and as the baseline of the benchmark, so it is written as for a small sound
@@ -17,6 +17,7 @@ mod gains;
 mod generators;
 mod parser;
 mod pitch;
+mod song;
 mod table;
 
 pub use answer::{Answer, Number, Was};
@@ -27,4 +28,5 @@ pub use gains::{float_gains, gains, Gain, Gains, WEIGHTS};
 pub use generators::{GeneratorView, State, MOST_GENERATORS};
 pub use parser::{Parser, Progress, SysEx, HEAD_BYTES, PAIR_BYTES};
 pub use pitch::{pitch, Pitch};
+pub use song::{most_thefts, write_song, LONGEST_SONG};
 pub use table::{Entry, Table};

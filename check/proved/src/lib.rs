@@ -1,4 +1,4 @@
-//! The proved library through its C header, `include/muntinorris.h`: the same structures, the same nine calls.
+//! The proved library through its C header, `include/muntinorris.h`: the same structures, the same ten calls.
 //!
 //! The only unsafe code is here. The header wants a record that a start made; on any other bytes a call "still returns, and
 //! touches no memory but the record", so that nothing here can go wrong for Rust.
@@ -20,6 +20,9 @@ pub const NONE: u8 = 0;
 pub const DONE: u8 = 1;
 pub const NOTE: u8 = 2;
 pub const NUMBER: u8 = 3;
+
+/// `MUNTINORRIS_WAS_STOLEN`: the generator of a note was busy.
+pub const WAS_STOLEN: u8 = 2;
 
 /// `struct muntinorris_generator_answer`.
 #[repr(C)]
@@ -62,6 +65,14 @@ pub struct PitchAnswer {
 pub struct GainsAnswer {
     pub left: f32,
     pub right: f32,
+    pub number: u8,
+}
+
+/// `struct muntinorris_song_answer`.
+#[repr(C)]
+#[derive(Clone, Copy, Debug, PartialEq, Eq)]
+pub struct SongAnswer {
+    pub thefts: u32,
     pub number: u8,
 }
 
@@ -137,6 +148,10 @@ const _: () = assert!(
     std::mem::size_of::<GainsAnswer>() == 12 && std::mem::offset_of!(GainsAnswer, number) == 8
 );
 
+const _: () = assert!(
+    std::mem::size_of::<SongAnswer>() == 8 && std::mem::offset_of!(SongAnswer, number) == 4
+);
+
 const _: () =
     assert!(std::mem::size_of::<Device>() == RECORD_BYTES && std::mem::align_of::<Device>() == 1);
 
@@ -150,6 +165,7 @@ extern "C" {
     fn muntinorris_pitch(key: u8, sensitivity: u8, bend: u16) -> PitchAnswer;
     fn muntinorris_gains(expression: u8, volume: u8, pan: u8) -> GainsAnswer;
     fn muntinorris_channel_gains(channel: *const Channel) -> GainsAnswer;
+    fn muntinorris_write_song(polyphony: u8, n: usize, song: *mut u8, length: usize) -> SongAnswer;
 }
 
 /// A call that wants no record.
@@ -172,6 +188,20 @@ pub fn gains(expression: u8, volume: u8, pan: u8) -> GainsAnswer {
 pub fn channel_gains(channel: &mut Channel) -> GainsAnswer {
     // SAFETY: the pointer is to all the numbers of a channel, and this borrow is the only one.
     unsafe { muntinorris_channel_gains(channel) }
+}
+
+/// The hardest song of n bytes, written to the front of the buffer.
+#[inline]
+pub fn write_song(polyphony: u8, n: usize, buffer: &mut [u8]) -> SongAnswer {
+    // SAFETY: the pointer is to as many bytes as the length says, and this borrow is the only one.
+    unsafe { muntinorris_write_song(polyphony, n, buffer.as_mut_ptr(), buffer.len()) }
+}
+
+/// The same with no buffer: "with length 0 the pointer may be anything", this address too.
+pub fn write_song_nowhere(polyphony: u8, n: usize, address: usize) -> SongAnswer {
+    let nowhere = std::ptr::without_provenance_mut(address);
+    // SAFETY: of length 0 nothing is read or written.
+    unsafe { muntinorris_write_song(polyphony, n, nowhere, 0) }
 }
 
 impl Device {
