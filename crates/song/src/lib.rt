@@ -52,9 +52,9 @@ fn theft(a: Answer) -> u32
     match a {
         Answer::Nothing => 0,
         Answer::Done => 0,
-        Answer::Note(channel, key, g, w) => stolen(w),
-        Answer::NoNote(number, channel, key) => 0,
-        Answer::Number(number) => 0,
+        Answer::Note(_, _, _, w) => stolen(w),
+        Answer::NoNote(_, _, _) => 0,
+        Answer::Number(_) => 0,
     }
 }
 

@@ -16,11 +16,11 @@ enum-known-a c = search needs
 stolen-requires : tie.Need-stolen-requires
 stolen-requires c κs = search needs
 
-enum-known-a-2 : tie.Need-enum-known-a-2
-enum-known-a-2 c = search needs
+enum-told-3 : tie.Need-enum-told-3
+enum-told-3 c = search needs
 
-enum-known-a-3 : tie.Need-enum-known-a-3
-enum-known-a-3 c = search needs
+enum-told-4 : tie.Need-enum-told-4
+enum-told-4 c = search needs
 
 returns : tie.Need-returns
 returns c = search needs
@@ -45,8 +45,8 @@ theft-spec =
     enum-told-2
     enum-known-a
     stolen-requires
-    enum-known-a-2
-    enum-known-a-3
+    enum-told-3
+    enum-told-4
     returns
     returns-2
     returns-3
