@@ -1,6 +1,5 @@
 -- What the lines of an input are answered, one after another, whatever the answer of a line that has ended is (`ended`): a program's own crate has that.
 use Prim.Native.Nat.{ℕ}
-use mathlib.Core.Bool.{Bool, true, false}
 use mathlib.Core.List.{List, [], _∷_, _++_}
 use lib.Dec.{eqb}
 use Rattle.loops.specs.Cases.{if_then_else_}

@@ -1,12 +1,11 @@
 -- The answers to the bytes of a read, put into a page one behind the other.
 -- Assumes nothing.
 use Prim.Native.Nat.{ℕ, _+_, _*_, _≤_, _<_}
-use mathlib.Core.Path.{_≡_, refl, sym, _∙_}
-use mathlib.Core.List.{List, [], _∷_, _++_, append-nil, append-assoc}
-use native.Mathlib.Numerals.{add-one}
+use mathlib.Core.Path.{_≡_, _∙_}
+use mathlib.Core.List.{List}
 use native.Mathlib.Omega.{arith}
 use lib.ListN.{length, take, getD}
-use lib.Seq.{take-suc, take-all, take-at}
+use lib.Seq.{take-all, take-at}
 use Rattle.text.specs.Text.{Put}
 use Rattle.text.proofs.Joined.{joined, whole}
 use Rattle.fields.specs.declared.Line.{Line}

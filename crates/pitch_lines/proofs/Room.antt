@@ -1,18 +1,15 @@
 -- An answer's line has at most 13 bytes: a number and an octave of two, an entry of six, and its commas and its end. So 16 bytes a byte of input are room.
 -- Assumes nothing.
-use Prim.Native.Nat.{ℕ, zero, suc, _+_, _*_, _/_, _%_, _^_, _≤_, _<_}
-use mathlib.Core.Path.{_≡_, refl}
+use Prim.Native.Nat.{ℕ, suc, _*_, _≤_, _<_}
 use mathlib.Core.Bool.{Bool, true, false}
-use mathlib.Core.List.{List, [], _∷_, _++_}
-use native.Mathlib.Nat.{pow-suc}
+use mathlib.Core.List.{List, [], _∷_}
 use native.Mathlib.Omega.{arith}
-use lib.Dec.{eqb, ltb, leb→le}
+use lib.Dec.{eqb, leb→le}
 use lib.IntN.{ℤ, pos, negsuc}
 use lib.Signed.{_≤ℤ_}
 use lib.ListN.{length, length-append}
-use borrow.Author.Tests.{ltb-false}
 use Rattle.loops.specs.Cases.{if_then_else_, orZero}
-use Rattle.text.specs.Text.{decimalWithin, decimal}
+use Rattle.text.specs.Text.{decimal}
 use Rattle.pitch.specs.declared.PitchAnswer.{PitchAnswer}
 use Rattle.pitch.specs.declared.PitchAnswer.the-variants.{Sounds, OutOfRange}
 use Rattle.pitch.specs.Pitch.{rest, position, entry, pitchAt, isOut, pitchOf, pitchNumber, pitchIn}

@@ -1,12 +1,12 @@
 -- A P or an n that is above all that are accepted may be cut to one that is refused too: what the request gets stays. And a page may serve for the next song: it stays as long.
 -- Assumes nothing.
-use Prim.Native.Nat.{ℕ, _≤_, _<_}
-use mathlib.Core.Path.{_≡_, refl, sym, _∙_}
+use Prim.Native.Nat.{ℕ, _<_}
+use mathlib.Core.Path.{_≡_, refl}
 use mathlib.Core.Bool.{Bool, true, false, _||_}
-use mathlib.Core.List.{List, _++_}
+use mathlib.Core.List.{List}
 use native.Mathlib.Omega.{arith}
 use lib.Dec.{ltb}
-use lib.ListN.{length, take, drop, length-append, length-drop}
+use lib.ListN.{length, take, drop}
 use lib.Seq.{take-at}
 use borrow.Author.Tests.{lt-ltb, ltb-false}
 use Rattle.loops.specs.Cases.{if_then_else_, atMost}
@@ -75,8 +75,8 @@ unfolding songAnswer
 fits p n t page e = go (isWrongP p) (isTooLong n page) refl refl e
   where
     go : (x y : Bool) → isWrongP p ≡ x → isTooLong n page ≡ y → (if x then WrongPolyphony else if y then TooLong else Thefts (thefts (started p 0 .device) (song n))) ≡ Thefts t → Fits p n page
-    go true y a b e = record { right = cc (e); short = cc (e) }
-    go false true a b e = record { right = a; short = cc (e) }
+    go true y a b e = record { right = cc; short = cc }
+    go false true a b e = record { right = a; short = cc }
     go false false a b e = record { right = a; short = b }
 
 pub song-in-page : (p n t : ℕ) (page : List ℕ) → songAnswer p n page ≡ Thefts t → take n (songWritten p n page) ≡ song n

@@ -16,7 +16,6 @@ use Rattle.fields.proofs.Told.{Reads, told}
 use Rattle.fields.proofs.Written.{written, ends-parts, ends-decimal}
 use Rattle.fields.proofs.Sentences as sentences
 use Rattle.song.specs.declared.SongAnswer.{SongAnswer}
-use Rattle.song.specs.declared.SongAnswer.the-variants.{WrongPolyphony, TooLong}
 use Rattle.song.specs.Song.{songAnswer, songNumber, theftsIn}
 use Rattle.song_lines.specs.declared.Request.{Request}
 use Rattle.song_lines.specs.declared.Request.the-variants.{Nothing, Malformed, Song}
