@@ -22,7 +22,7 @@ use Rattle.fields.proofs.Written.{ends-parts}
 
 -- a line is answered by its fields
 pub line-told : (ended : Line → List ℕ) (commas : ℕ) (by : ℕ → ℕ → ℕ → List ℕ) (other : List ℕ) (reads : Reads ended commas by other) (f : List ℕ) (gs : List (List ℕ))
-    → isField f ≡ true → areFields gs ≡ true → allAnswersBy ended (f ++ behind gs) ≡ told ended commas by other reads 0 0 0 f gs
+    → isField f ≡ true → areFields gs ≡ true → allAnswersBy ended (f ++ behind gs) ≡ told commas by other 0 0 0 f gs
 unfolding at
 line-told ended commas by other reads f gs e es = started ended (f ++ behind gs) ∙ fields-told ended commas by other reads 0 0 0 f gs e es
 

@@ -49,6 +49,12 @@ never : (x : Bool) {A : Type 0} (a b : A) → (if x && false then a else b) ≡ 
 never true a b = refl
 never false a b = refl
 
+module _ (commas : ℕ) (by : ℕ → ℕ → ℕ → List ℕ) (other : List ℕ) where
+  -- what the fields of a line answer where r numbers are read, k and s the last of them
+  unfoldable pub told : ℕ → ℕ → ℕ → List ℕ → List (List ℕ) → List ℕ
+  told r k s f [] = if isNumber f && eqb r commas then by k s (spelled 0 f) else other
+  told r k s f (g ∷ gs) = if isNumber f && ltb r 2 then told (r + 1) s (spelled 0 f) g gs else other
+
 module _ (ended : Line → List ℕ) (commas : ℕ) (by : ℕ → ℕ → ℕ → List ℕ) (other : List ℕ) (reads : Reads ended commas by other) where
   lost-end : (c : Line) → 3 ≤ c .commas → ended c ≡ other
   lost-end c h = let f = reads .few in reads .is c ∙ rw (ne-eqb (c .commas) commas (λ e. omega arith)) (never (c .digit) _ _)
@@ -96,11 +102,6 @@ module _ (ended : Line → List ℕ) (commas : ℕ) (by : ℕ → ℕ → ℕ �
       go true b y ih = from-digit ended r k s d n x (f ++ behind gs) b ∙ ih y
       go false b y ih = other-byte (at r d k s n) x f gs e es b
 
-  -- what the fields of a line answer where r numbers are read, k and s the last of them
-  unfoldable pub told : ℕ → ℕ → ℕ → List ℕ → List (List ℕ) → List ℕ
-  told r k s f [] = if isNumber f && eqb r commas then by k s (spelled 0 f) else other
-  told r k s f (g ∷ gs) = if isNumber f && ltb r 2 then told (r + 1) s (spelled 0 f) g gs else other
-
   last-field : (r k s : ℕ) (f : List ℕ) → isNumber f ≡ true → from ended (at r false (kept k) (kept s) 0) (f ++ 10 ∷ []) ≡ (if eqb r commas then by k s (spelled 0 f) else other)
   unfolding at
   last-field r k s f e =
@@ -115,7 +116,7 @@ module _ (ended : Line → List ℕ) (commas : ℕ) (by : ℕ → ℕ → ℕ �
   third-comma r k s n g gs e es z = from-byte ended (at r true k s n) 44 (g ++ behind gs) refl ∙ rw z (lost-field g (behind gs) e (lost-behind gs es) malformed (lit≤ tt))
 
   pub fields-told : (r k s : ℕ) (f : List ℕ) (gs : List (List ℕ)) → isField f ≡ true → areFields gs ≡ true
-      → from ended (at r false (kept k) (kept s) 0) (f ++ behind gs) ≡ told r k s f gs
+      → from ended (at r false (kept k) (kept s) 0) (f ++ behind gs) ≡ told commas by other r k s f gs
   unfolding told areFields
   fields-told r k s f [] e es = go (isNumber f) refl
     where
@@ -127,8 +128,8 @@ module _ (ended : Line → List ℕ) (commas : ℕ) (by : ℕ → ℕ → ℕ �
       go (isNumber f) (ltb r 2) refl refl (fields-told (r + 1) s (spelled 0 f) g gs (p .0) (p .1))
     where
       go : (b c : Bool) → isNumber f ≡ b → ltb r 2 ≡ c
-          → from ended (at (r + 1) false (kept s) (kept (spelled 0 f)) 0) (g ++ behind gs) ≡ told (r + 1) s (spelled 0 f) g gs
-          → from ended (at r false (kept k) (kept s) 0) (f ++ (44 ∷ (g ++ behind gs))) ≡ (if b && c then told (r + 1) s (spelled 0 f) g gs else other)
+          → from ended (at (r + 1) false (kept s) (kept (spelled 0 f)) 0) (g ++ behind gs) ≡ told commas by other (r + 1) s (spelled 0 f) g gs
+          → from ended (at r false (kept k) (kept s) 0) (f ++ (44 ∷ (g ++ behind gs))) ≡ (if b && c then told commas by other (r + 1) s (spelled 0 f) g gs else other)
       go true true z y ih =
           from-number ended r (kept k) (kept s) false 0 f (44 ∷ (g ++ behind gs)) z
           ∙ from-comma ended r (kept k) (kept s) (spelled 0 f) (g ++ behind gs) (ltb-true r 2 y)

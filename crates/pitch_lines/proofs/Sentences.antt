@@ -38,7 +38,7 @@ reads = record {
 }
 
 abbrev toldBy : List ℕ → List (List ℕ) → List ℕ
-toldBy f gs = told lineAnswer 2 by malformedLine reads 0 0 0 f gs
+toldBy f gs = told 2 by malformedLine 0 0 0 f gs
 
 -- a test that decides nothing
 never : (x : Bool) (a b : List ℕ) → (if x && false then a else b) ≡ b

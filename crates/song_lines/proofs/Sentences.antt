@@ -52,7 +52,7 @@ module _ (gets : Request → List ℕ) (g : Gets gets) where
   two true false p n = refl
   two false y p n = refl
 
-  fields-get : (f : List ℕ) (gs : List (List ℕ)) → told (λ c. gets (lineRequest c)) 1 (λ k p n. gets (Song p n)) (gets Malformed) reads 0 0 0 f gs ≡ gets (fieldsRequest f gs)
+  fields-get : (f : List ℕ) (gs : List (List ℕ)) → told 1 (λ k p n. gets (Song p n)) (gets Malformed) 0 0 0 f gs ≡ gets (fieldsRequest f gs)
   unfolding told fieldsRequest
   fields-get f [] = never (isNumber f) _ _
   fields-get f (h ∷ []) = two (isNumber f) (isNumber h) _ _
