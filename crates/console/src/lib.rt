@@ -80,14 +80,28 @@ fn write_to(fd: i32, page: &[u8], to: usize) -> Output
     Output::Whole
 }
 
-// Writes the first `used` bytes of the page to standard output, or all of it if that is more than it has. What reaches the other end no contract can say.
-pub fn write(page: &[u8], used: usize) -> Output
+// Writes the first `used` bytes of the page, or all of it if that is more than it has. What reaches the other end no contract can say.
+fn write_first(fd: i32, page: &[u8], used: usize) -> Output
     ensures { λ r. ⌜ Writes (min used (length (now (page .entry)))) r ⌝ }
 {
     if used <= page.len() {
-        return write_to(STDOUT_FILENO, page, used);
+        return write_to(fd, page, used);
     }
-    write_to(STDOUT_FILENO, page, page.len())
+    write_to(fd, page, page.len())
+}
+
+// That to standard output.
+pub fn write(page: &[u8], used: usize) -> Output
+    ensures { λ r. ⌜ Writes (min used (length (now (page .entry)))) r ⌝ }
+{
+    write_first(STDOUT_FILENO, page, used)
+}
+
+// That to standard error.
+pub fn write_error(page: &[u8], used: usize) -> Output
+    ensures { λ r. ⌜ Writes (min used (length (now (page .entry)))) r ⌝ }
+{
+    write_first(STDERR_FILENO, page, used)
 }
 
 // Writes a line to standard error, if that takes it, and answers the status of a program that failed.

@@ -1,44 +1,56 @@
 // The programs that read standard input and write standard output, each as a function that answers its exit status. One loop for all of them: it reads an input of any
-// length, and writes what is known before it waits for more. What the bytes answer is in crates `listed` and `pitch_lines`. Assumes the contracts of the C library's read
-// and write, and nothing else.
+// length, and writes what is known before it waits for more. What the bytes answer is in crates `listed`, `pitch_lines` and `song_lines`. Assumes the contracts of the C
+// library's read and write, and nothing else.
 ghost use Prim.Native.Nat.{_≤_};
 use console::Input;
 use console::Output;
+use fields::Line;
 use listed::Awaits;
 use listed::Lister;
-use pitch_lines::Call;
+use song::SongAnswer;
+use song_lines::Request;
 
 enum Program {
     Listing,
     Pitches,
+    HardestSong,
 }
 
 // What is kept from read to read: which program it is, and what each of them keeps.
 struct Kept {
     program: Program,
     lister: Lister,
-    call: Call,
+    line: Line,
+    // A request of a song was refused or malformed.
+    refused: bool,
 }
 
-// After a turn: whether to go on, whether reading or writing failed, and what is kept.
+// After a turn: whether to go on, whether reading or writing failed or, at the end, a request was refused, and what is kept.
 struct Turn {
     more: bool,
     failed: bool,
     kept: Kept,
 }
 
-// A byte lists no more than 128 bytes, and is answered by no more than 16, so the page has room for what a read of 1,024 calls for.
+// What became of a request of a song: whether it was refused or malformed, and whether writing failed.
+struct Outcome {
+    refused: bool,
+    failed: bool,
+}
+
+// A byte lists no more than 128 bytes, and is answered by no more than 16, so the page has room for what a read of 1,024 calls for. It has room for the longest song too.
 fn empty_page() -> [u8; 131072] {
     [0u8; 131072]
 }
 
 fn begin(program: Program) -> Kept {
     let lister = listed::begin();
-    let call = pitch_lines::begin();
+    let line = fields::begin();
     Kept {
         program: program,
         lister: lister,
-        call: call,
+        line: line,
+        refused: false,
     }
 }
 
@@ -50,6 +62,9 @@ fn tell(program: Program, what: &[u8]) -> bool {
         }
         Program::Pitches => {
             console::fail(b"pitches");
+        }
+        Program::HardestSong => {
+            console::fail(b"hardest_song");
         }
     }
     console::fail(what);
@@ -96,11 +111,114 @@ fn list(k: Kept, page: &mut [u8], bytes: &[u8]) -> Turn {
 }
 
 fn pitch(k: Kept, page: &mut [u8], bytes: &[u8]) -> Turn {
-    let s = pitch_lines::all(k.call, page, bytes);
-    let call = s.call;
+    let s = pitch_lines::all(k.line, page, bytes);
+    let line = s.line;
     let mut next = k;
-    next.call = call;
+    next.line = line;
     written(next, page, s.used, false)
+}
+
+// Writes a song behind its P and the own ID 0, which is what the listing program reads, and answers whether that failed.
+fn write_song(page: &[u8], polyphony: u8, n: usize) -> bool {
+    let start = [polyphony, 0];
+    if write_out(Program::HardestSong, &start, 2) {
+        return true;
+    }
+    write_out(Program::HardestSong, page, n)
+}
+
+fn is_song(a: SongAnswer) -> bool {
+    match a {
+        SongAnswer::Thefts(_) => true,
+        SongAnswer::WrongPolyphony => false,
+        SongAnswer::TooLong => false,
+    }
+}
+
+// Writes the line of an answer to standard error. If that fails there is no place to tell it, and the status alone says so.
+fn answered(line: &[u8], used: usize, refused: bool) -> Outcome {
+    let o = console::write_error(line, used);
+    match o {
+        Output::Whole => Outcome {
+            refused: refused,
+            failed: false,
+        },
+        Output::Cut(_) => Outcome {
+            refused: refused,
+            failed: true,
+        },
+    }
+}
+
+// A song is written whole before its answer says so. The page is the song's buffer.
+fn sing(page: &mut [u8], polyphony: u8, n: usize) -> Outcome {
+    let a = song::write_song(polyphony, n, page);
+    let good = is_song(a);
+    if good {
+        if write_song(page, polyphony, n) {
+            return Outcome {
+                refused: false,
+                failed: true,
+            };
+        }
+    }
+    let mut line = [0u8; 16];
+    let used = song_lines::put_answer(&mut line, a);
+    answered(&line, used, !good)
+}
+
+fn malformed() -> Outcome {
+    let mut line = [0u8; 16];
+    let used = song_lines::put_malformed(&mut line);
+    answered(&line, used, true)
+}
+
+fn answer(page: &mut [u8], r: Request) -> Outcome {
+    match r {
+        Request::Nothing => Outcome {
+            refused: false,
+            failed: false,
+        },
+        Request::Malformed => malformed(),
+        Request::Song(polyphony, n) => sing(page, polyphony, n),
+    }
+}
+
+// Each request is answered as soon as its line has ended.
+fn sing_all(k: Kept, page: &mut [u8], bytes: &[u8]) -> Turn {
+    let mut line = k.line;
+    let mut refused = k.refused;
+    let mut failed = false;
+    let mut i = 0;
+    while (i < bytes.len()) & !failed {
+        let s = song_lines::next(line, bytes[i]);
+        let next = s.line;
+        let request = s.request;
+        let o = answer(page, request);
+        line = next;
+        refused = refused | o.refused;
+        failed = o.failed;
+        i += 1;
+    }
+    let mut kept = k;
+    kept.line = line;
+    kept.refused = refused;
+    Turn {
+        more: !failed,
+        failed: failed,
+        kept: kept,
+    }
+}
+
+// A request that was refused, at any time, is told by the status.
+fn end_songs(k: Kept, page: &mut [u8]) -> Turn {
+    let request = song_lines::end(k.line);
+    let o = answer(page, request);
+    Turn {
+        more: false,
+        failed: o.failed | o.refused | k.refused,
+        kept: k,
+    }
 }
 
 fn take(k: Kept, page: &mut [u8], bytes: &[u8]) -> Turn {
@@ -108,21 +226,28 @@ fn take(k: Kept, page: &mut [u8], bytes: &[u8]) -> Turn {
     match program {
         Program::Listing => list(k, page, bytes),
         Program::Pitches => pitch(k, page, bytes),
+        Program::HardestSong => sing_all(k, page, bytes),
     }
+}
+
+fn end_list(k: Kept, page: &mut [u8]) -> Turn {
+    let used = listed::end(k.lister, page);
+    written(k, page, used, true)
+}
+
+fn end_pitch(k: Kept, page: &mut [u8]) -> Turn {
+    let used = pitch_lines::end(k.line, page);
+    written(k, page, used, true)
 }
 
 // What the end of the input adds.
-fn put_end(k: Kept, page: &mut [u8]) -> usize {
+fn end(k: Kept, page: &mut [u8]) -> Turn {
     let program = k.program;
     match program {
-        Program::Listing => listed::end(k.lister, page),
-        Program::Pitches => pitch_lines::end(k.call, page),
+        Program::Listing => end_list(k, page),
+        Program::Pitches => end_pitch(k, page),
+        Program::HardestSong => end_songs(k, page),
     }
-}
-
-fn end(k: Kept, page: &mut [u8]) -> Turn {
-    let used = put_end(k, page);
-    written(k, page, used, true)
 }
 
 // Nothing is answered for what could not be read: the input did not end.
@@ -146,7 +271,7 @@ fn read_once(k: Kept, page: &mut [u8]) -> Turn {
     }
 }
 
-// A proved loop has to end, so the turns are counted down from a number that no input uses up. Answers whether reading or writing failed.
+// A proved loop has to end, so the turns are counted down from a number that no input uses up. Answers whether the program failed.
 fn read_all(k: Kept, page: &mut [u8]) -> bool {
     let mut turns = u64::MAX;
     let mut kept = k;
@@ -178,7 +303,11 @@ fn pitch_all(page: &mut [u8]) -> bool {
     read_all(begin(Program::Pitches), page)
 }
 
-// The exit status: 0, or 1 if reading or writing failed.
+fn song_all(page: &mut [u8]) -> bool {
+    read_all(begin(Program::HardestSong), page)
+}
+
+// The exit status: 0, or 1 if the program failed.
 fn status(failed: bool) -> u32
     ensures { λ r. ⌜ r ≤ 1 ⌝ }
 {
@@ -203,4 +332,14 @@ pub extern "C" fn pitches_status() -> u32
     let mut space = empty_page();
     let page: &mut [u8] = &mut space;
     status(pitch_all(page))
+}
+
+// That of the program that writes the hardest song: 1 too if a request was refused or malformed.
+#[no_mangle]
+pub extern "C" fn hardest_song_status() -> u32
+    ensures { λ r. ⌜ r ≤ 1 ⌝ }
+{
+    let mut space = empty_page();
+    let page: &mut [u8] = &mut space;
+    status(song_all(page))
 }

@@ -1,40 +1,25 @@
 -- An answer's line has at most 13 bytes: a number and an octave of two, an entry of six, and its commas and its end. So 16 bytes a byte of input are room.
 -- Assumes nothing.
-use Prim.Native.Nat.{ℕ, zero, suc, _+_, _*_, _/_, _%_, _^_, _≤_, _<_}
-use mathlib.Core.Path.{_≡_, refl}
+use Prim.Native.Nat.{ℕ, suc, _*_, _≤_, _<_}
 use mathlib.Core.Bool.{Bool, true, false}
-use mathlib.Core.List.{List, [], _∷_, _++_}
-use native.Mathlib.Nat.{pow-suc}
+use mathlib.Core.List.{List, [], _∷_}
 use native.Mathlib.Omega.{arith}
-use lib.Dec.{eqb, ltb, leb→le}
+use lib.Dec.{eqb, leb→le}
 use lib.IntN.{ℤ, pos, negsuc}
 use lib.Signed.{_≤ℤ_}
 use lib.ListN.{length, length-append}
-use borrow.Author.Tests.{ltb-false}
 use Rattle.loops.specs.Cases.{if_then_else_, orZero}
-use Rattle.text.specs.Text.{decimalWithin, decimal}
+use Rattle.text.specs.Text.{decimal}
 use Rattle.pitch.specs.declared.PitchAnswer.{PitchAnswer}
 use Rattle.pitch.specs.declared.PitchAnswer.the-variants.{Sounds, OutOfRange}
 use Rattle.pitch.specs.Pitch.{rest, position, entry, pitchAt, isOut, pitchOf, pitchNumber, pitchIn}
 use Rattle.pitch.proofs.Roots.{entry-at, to-twice}
 use Rattle.pitch.proofs.Rising.{octave-range}
-use Rattle.pitch_lines.specs.declared.Call.{Call}
-use Rattle.pitch_lines.specs.PitchLines.{signed, pitchFields, answerLine, malformedLine, isCall, lineAnswer, answer, after, answersTo}
-
--- a number below 10 to the power j has at most j digits
-decimal-length : (j k n : ℕ) → n < 10 ^ suc j → length (decimalWithin k n) ≤ suc j
-unfolding decimalWithin
-decimal-length j zero n h = omega arith
-decimal-length j (suc k) n h = go j (ltb n 10) refl h (λ i l. decimal-length i k (n / 10) l)
-  where
-    go : (j : ℕ) (b : Bool) → ltb n 10 ≡ b → n < 10 ^ suc j → ((i : ℕ) → n / 10 < 10 ^ suc i → length (decimalWithin k (n / 10)) ≤ suc i)
-        → length (if b then (48 + n) ∷ [] else decimalWithin k (n / 10) ++ ((48 + n % 10) ∷ [])) ≤ suc j
-    go j true e h ih = omega arith
-    go zero false e h ih = let l = ltb-false n 10 e in absurd (omega arith)
-    go (suc i) false e h ih =
-        let p : 10 ^ suc (suc i) ≡ 10 ^ suc i * 10 = pow-suc 10 (suc i) in
-        let m = ih i (omega arith) in
-        rw (length-append (decimalWithin k (n / 10)) ((48 + n % 10) ∷ [])) (omega arith)
+use Rattle.fields.specs.declared.Line.{Line}
+use Rattle.fields.specs.Line.{after}
+use Rattle.fields.specs.Answers.{malformedLine, answerBy, answersBy}
+use Rattle.fields.proofs.Written.{decimal-length}
+use Rattle.pitch_lines.specs.PitchLines.{signed, pitchFields, answerLine, isCall, lineAnswer, answer, answersTo}
 
 signed-length : (z : ℤ) → negsuc 1 ≤ℤ z → z ≤ℤ pos 12 → length (signed z) ≤ 2
 signed-length (pos n) a b = let h : n ≤ 12 = leb→le n 12 (b .le) in decimal-length 1 20 n (omega arith)
@@ -72,20 +57,20 @@ answer-length k s b =
     let z = decimal-length 5 20 (p .entry) (omega arith) in
     simp length-append (omega arith)
 
-line-length : (c : Call) → length (lineAnswer c) ≤ 16
+line-length : (c : Line) → length (lineAnswer c) ≤ 16
 unfolding lineAnswer
 line-length c = go (isCall c)
   where
-    go : (x : Bool) → length (if x then answerLine (pitchOf (c .key) (c .sensitivity) (c .bend)) else malformedLine) ≤ 16
-    go true = answer-length (c .key) (c .sensitivity) (c .bend)
+    go : (x : Bool) → length (if x then answerLine (pitchOf (c .first) (c .previous) (c .last)) else malformedLine) ≤ 16
+    go true = answer-length (c .first) (c .previous) (c .last)
     go false = omega arith
 
-byte-length : (c : Call) (x : Bool) → length (if x then lineAnswer c else []) ≤ 16
+byte-length : (c : Line) (x : Bool) → length (if x then lineAnswer c else []) ≤ 16
 byte-length c true = line-length c
 byte-length c false = omega arith
 
-pub bytes-length : (c : Call) (bs : List ℕ) → length (answersTo c bs) ≤ 16 * length bs
-unfolding answersTo answer
+pub bytes-length : (c : Line) (bs : List ℕ) → length (answersTo c bs) ≤ 16 * length bs
+unfolding answersBy answerBy
 bytes-length c [] = omega arith
 bytes-length c (b ∷ bs) =
     let h = byte-length c (eqb b 10) in

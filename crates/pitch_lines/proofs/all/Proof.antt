@@ -7,7 +7,9 @@ use lib.ListN.{length, take}
 use borrow.Author.Needs.{needs}
 use Rattle.text.specs.Text.{Put}
 use Rattle.text.proofs.Joined.{nothing-put}
-use Rattle.pitch_lines.specs.PitchLines.{answersTo, afterAll}
+use Rattle.fields.specs.Line.{afterAll}
+use Rattle.fields.specs.Answers.{answersBy}
+use Rattle.pitch_lines.specs.PitchLines.{answersTo}
 use Rattle.pitch_lines.proofs.Parts.{one-more, no-more, stands-whole}
 use Rattle.pitch_lines.proofs.all.Statement.{statement}
 use Rattle.pitch_lines.proofs.all.Tie as tie
@@ -20,7 +22,7 @@ abbrev μ-loop : tie.MeasureT-loop
 μ-loop page₀ bytes k₀ used₀ i₀ page k used i = length bytes - i
 
 loop-holds : tie.Need-loop-holds Inv-loop μ-loop
-unfolding answersTo afterAll
+unfolding answersBy afterAll
 loop-holds c = (omega arith, refl, refl, nothing-put _ _)
 
 shared-slice-read-one : tie.Need-shared-slice-read-one Inv-loop μ-loop

@@ -1,13 +1,13 @@
 -- `pitch_lines::end`: nothing for an empty line, and the answer of any other.
 -- Assumes nothing.
 use Rattle.text.proofs.Joined.{nothing-put}
-use Rattle.pitch_lines.specs.PitchLines.{endAnswer}
+use Rattle.fields.specs.Answers.{endAnswerBy}
 use borrow.Author.Needs.{needs}
 use Rattle.pitch_lines.proofs.end.Statement.{statement}
 use Rattle.pitch_lines.proofs.end.Tie as tie
 
 returns : tie.Need-returns
-unfolding endAnswer
+unfolding endAnswerBy
 returns c = rw (c .if1 .taken) (nothing-put _ _)
 
 put-answer-requires : tie.Need-put-answer-requires
@@ -17,7 +17,7 @@ same-length : tie.Need-same-length
 same-length c = search needs
 
 returns-2 : tie.Need-returns-2
-unfolding endAnswer
+unfolding endAnswerBy
 returns-2 c = rw (c .before .before .before .before .if1 .left) (c .before .before .put-answer .ensures)
 
 pub end-spec : {M : Type 1} → statement M

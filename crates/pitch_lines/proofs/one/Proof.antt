@@ -2,7 +2,8 @@
 -- Assumes nothing.
 use borrow.Author.Tests.{eq-eqb, ne-eqb}
 use Rattle.text.proofs.Joined.{nothing-put}
-use Rattle.pitch_lines.specs.PitchLines.{answer, after}
+use Rattle.fields.specs.Line.{after}
+use Rattle.fields.specs.Answers.{answerBy}
 use borrow.Author.Needs.{needs}
 use Rattle.pitch_lines.proofs.one.Statement.{statement}
 use Rattle.pitch_lines.proofs.one.Tie as tie
@@ -17,14 +18,14 @@ same-length : tie.Need-same-length
 same-length c = search needs
 
 returns : tie.Need-returns
-unfolding answer after
+unfolding answerBy after
 returns c = rw (eq-eqb _ _ (c .before .before .before .before .before .before .if1 .taken)) (record { kept = c .begin .ensures; put = c .before .before .before .put-answer .ensures })
 
 read-requires : tie.Need-read-requires
 read-requires c κs = search needs
 
 returns-2 : tie.Need-returns-2
-unfolding answer after
+unfolding answerBy after
 returns-2 c = rw (ne-eqb _ _ (c .before .if1 .left)) (record { kept = c .read .ensures; put = nothing-put _ _ })
 
 pub one-spec : {M : Type 1} → statement M

@@ -1,14 +1,14 @@
--- `pitch_lines::read`: the two tests are those of the definition, and what they say of the byte and of the number that is read keeps the code within its types.
+-- `fields::read`: the two tests are those of the definition, and what they say of the byte and of the number that is read keeps the code within its types.
 -- Assumes nothing.
 use Prim.Native.Nat.{_<_}
 use mathlib.Core.Bool.{_&&_}
 use lib.Dec.{ltb, eqb}
 use borrow.Author.Tests.{leb-true, ltb-true}
 use borrow.Author.Needs.{needs}
-use Rattle.pitch_lines.specs.PitchLines.{read, afterDigit, afterComma}
-use Rattle.pitch_lines.proofs.Fields.{both}
-use Rattle.pitch_lines.proofs.read.Statement.{statement}
-use Rattle.pitch_lines.proofs.read.Tie as tie
+use Rattle.fields.specs.Line.{read, afterDigit, afterComma}
+use Rattle.fields.proofs.Numbers.{both}
+use Rattle.fields.proofs.read.Statement.{statement}
+use Rattle.fields.proofs.read.Tie as tie
 
 cast-at-most : tie.Need-cast-at-most
 cast-at-most c = search needs
@@ -38,8 +38,8 @@ returns c = rw (c .before .before .if1 .taken, c .at-most .ensures .0)
 add-t14 : tie.Need-add-t14
 add-t14 c =
     let a = c .before .before .before .before .before .args in
-    let p = both (eqb (a .b) 44) (a .c .digit && ltb (a .c .reading) 2) (c .before .if2 .taken) in
-    let k : a .c .reading < 2 = ltb-true _ _ (both (a .c .digit) (ltb (a .c .reading) 2) (p .1) .1) in
+    let p = both (eqb (a .b) 44) (a .c .digit && ltb (a .c .commas) 2) (c .before .if2 .taken) in
+    let k : a .c .commas < 2 = ltb-true _ _ (both (a .c .digit) (ltb (a .c .commas) 2) (p .1) .1) in
     search needs
 
 returns-2 : tie.Need-returns-2

@@ -1,9 +1,9 @@
--- `pitch_lines::at_most` meets its contract, in each of its two cases.
+-- `fields::at_most` meets its contract, in each of its two cases.
 -- Assumes nothing.
 use native.Mathlib.Omega.{arith}
 use borrow.Author.Tests.{lt-ltb, le-ltb}
-use Rattle.pitch_lines.proofs.at_most.Statement.{statement}
-use Rattle.pitch_lines.proofs.at_most.Tie as tie
+use Rattle.fields.proofs.at_most.Statement.{statement}
+use Rattle.fields.proofs.at_most.Tie as tie
 
 returns : tie.Need-returns
 returns c = (simp (lt-ltb _ _ (c .if1 .taken)), omega arith)

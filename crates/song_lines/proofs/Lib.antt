@@ -1,0 +1,3 @@
+pub mod Room
+pub mod Refused
+pub mod Sentences

@@ -1,0 +1,2 @@
+-- Requests of songs, a line each, and their answers.
+pub mod SongLines

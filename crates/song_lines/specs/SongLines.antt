@@ -1,0 +1,72 @@
+-- The program `hardest_song`: a request a line, `P,n` in decimal. For each a line `number,thefts` on standard error, what `songAnswer P n` answers, and on standard output
+-- the listing program's input: P, the own ID 0, and the song. All text is ASCII, and every line ends with byte 0AH.
+use Prim.Native.Nat.{ℕ}
+use mathlib.Core.Bool.{Bool, _&&_}
+use mathlib.Core.List.{List, [], _∷_, _++_}
+use lib.Dec.{eqb}
+use Rattle.loops.specs.Cases.{if_then_else_, atMost, orZero}
+use Rattle.text.specs.Text.{decimal}
+use Rattle.fields.specs.declared.Line.{Line}
+use Rattle.fields.specs.Line.{isEmpty}
+use Rattle.fields.specs.Answers.{malformedLine, allAnswersBy}
+use Rattle.fields.specs.Fields.{isNumber, spelled}
+use Rattle.song.specs.declared.SongAnswer.{SongAnswer}
+use Rattle.song.specs.declared.SongAnswer.the-variants.{Thefts, WrongPolyphony, TooLong}
+use Rattle.song.specs.Song.{song, songAnswer, songNumber, theftsIn}
+use Rattle.song_lines.specs.declared.Request.{Request}
+use Rattle.song_lines.specs.declared.Request.the-variants.{Nothing, Malformed, Song}
+
+-- ---- what a line asks for
+
+-- a request has two numbers, the second with a digit as the first; a P above 255 is refused as 255 is
+abbrev pub isRequest : Line → Bool
+isRequest c = c .digit && eqb (c .commas) 1
+
+unfoldable pub lineRequest : Line → Request
+lineRequest c = if isRequest c then Song (atMost 255 (c .previous)) (c .last) else Malformed
+
+-- a byte of the input asks where it ends a line
+unfoldable pub request : Line → ℕ → Request
+request c b = if eqb b 10 then lineRequest c else Nothing
+
+-- the end of the input: a last line without its 0AH asks all the same, if it has a byte
+unfoldable pub endRequest : Line → Request
+endRequest c = if isEmpty c then Nothing else lineRequest c
+
+-- ---- what it gets
+
+-- the line of an answer: its number, 0 for a song, and the thefts
+unfoldable pub answerLine : SongAnswer → List ℕ
+answerLine a = decimal (orZero (songNumber a)) ++ (44 ∷ decimal (theftsIn a)) ++ (10 ∷ [])
+
+-- what standard error gets, where the song is written into this page
+abbrev pub answerTo : List ℕ → Request → List ℕ
+answerTo page Nothing = []
+answerTo page Malformed = malformedLine
+answerTo page (Song p n) = answerLine (songAnswer p n page)
+
+-- and what standard output gets: a refusal nothing
+abbrev pub withSong : ℕ → ℕ → SongAnswer → List ℕ
+withSong p n (Thefts t) = p ∷ 0 ∷ song n
+withSong p n WrongPolyphony = []
+withSong p n TooLong = []
+
+abbrev pub songTo : List ℕ → Request → List ℕ
+songTo page Nothing = []
+songTo page Malformed = []
+songTo page (Song p n) = withSong p n (songAnswer p n page)
+
+-- what an input gets (crate `fields`, specs/Answers)
+abbrev pub answers : List ℕ → List ℕ → List ℕ
+answers page input = allAnswersBy (λ c. answerTo page (lineRequest c)) input
+
+abbrev pub songs : List ℕ → List ℕ → List ℕ
+songs page input = allAnswersBy (λ c. songTo page (lineRequest c)) input
+
+-- ---- a line by its fields
+
+-- a request is two fields, each a number; any other line is malformed. That an input gets what its lines' fields ask for is in proofs/Sentences
+unfoldable pub fieldsRequest : List ℕ → List (List ℕ) → Request
+fieldsRequest p [] = Malformed
+fieldsRequest p (n ∷ []) = if isNumber p && isNumber n then Song (spelled 0 p) (spelled 0 n) else Malformed
+fieldsRequest p (n ∷ g ∷ gs) = Malformed
