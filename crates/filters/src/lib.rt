@@ -151,7 +151,7 @@ fn answered(line: &[u8], used: usize, refused: bool) -> Outcome {
 }
 
 // A song is written whole before its answer says so. The page is the song's buffer.
-fn sing(page: &mut [u8], polyphony: u8, n: usize) -> Outcome {
+fn give_song(page: &mut [u8], polyphony: u8, n: usize) -> Outcome {
     let a = song::write_song(polyphony, n, page);
     let good = is_song(a);
     if good {
@@ -180,12 +180,12 @@ fn answer(page: &mut [u8], r: Request) -> Outcome {
             failed: false,
         },
         Request::Malformed => malformed(),
-        Request::Song(polyphony, n) => sing(page, polyphony, n),
+        Request::Song(polyphony, n) => give_song(page, polyphony, n),
     }
 }
 
 // Each request is answered as soon as its line has ended.
-fn sing_all(k: Kept, page: &mut [u8], bytes: &[u8]) -> Turn {
+fn answer_all(k: Kept, page: &mut [u8], bytes: &[u8]) -> Turn {
     let mut line = k.line;
     let mut refused = k.refused;
     let mut failed = false;
@@ -226,7 +226,7 @@ fn take(k: Kept, page: &mut [u8], bytes: &[u8]) -> Turn {
     match program {
         Program::Listing => list(k, page, bytes),
         Program::Pitches => pitch(k, page, bytes),
-        Program::HardestSong => sing_all(k, page, bytes),
+        Program::HardestSong => answer_all(k, page, bytes),
     }
 }
 

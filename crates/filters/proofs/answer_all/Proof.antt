@@ -1,4 +1,4 @@
--- `filters::sing_all` ends, since each turn reads a byte more; the page keeps its length.
+-- `filters::answer_all` ends, since each turn reads a byte more; the page keeps its length.
 -- Assumes nothing.
 use Prim.Native.Nat.{ℕ, _-_, _<_}
 use mathlib.Core.Path.{_≡_, refl, _∙_}
@@ -9,8 +9,8 @@ use lib.ListN.{length}
 use borrow.Author.Needs.{needs}
 use borrow.Author.Tests.{ltb-true}
 use Rattle.fields.proofs.Numbers.{both}
-use Rattle.filters.proofs.sing_all.Statement.{statement}
-use Rattle.filters.proofs.sing_all.Tie as tie
+use Rattle.filters.proofs.answer_all.Statement.{statement}
+use Rattle.filters.proofs.answer_all.Tie as tie
 
 -- a turn is taken only where a byte is left
 left : (i n : ℕ) (failed : Bool) → (ltb i n && not failed) ≡ true → i < n
@@ -55,8 +55,8 @@ same-length c = c .before .loop .inv
 returns : tie.Need-returns Inv-loop μ-loop
 returns c = search needs
 
-pub sing-all-spec : {M : Type 1} → statement M
-sing-all-spec =
+pub answer-all-spec : {M : Type 1} → statement M
+answer-all-spec =
     tie.close
     (tie.spec
     Inv-loop
