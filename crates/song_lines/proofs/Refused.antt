@@ -3,10 +3,10 @@
 use Prim.Native.Nat.{ℕ, _<_}
 use mathlib.Core.Path.{_≡_, refl}
 use mathlib.Core.Bool.{Bool, true, false, _||_}
-use mathlib.Core.List.{List}
+use mathlib.Core.List.{List, _++_}
 use native.Mathlib.Omega.{arith}
 use lib.Dec.{ltb}
-use lib.ListN.{length, take, drop}
+use lib.ListN.{length, take, drop, length-append, length-drop}
 use lib.Seq.{take-at}
 use borrow.Author.Tests.{lt-ltb, ltb-false}
 use Rattle.loops.specs.Cases.{if_then_else_, atMost}
@@ -64,6 +64,24 @@ module _ (page : List ℕ) where
 pub same-room : (p n : ℕ) (page other : List ℕ) → length page ≡ length other → songAnswer p n page ≡ songAnswer p n other
 unfolding songAnswer
 same-room p n page other e = rw e
+
+-- and a request leaves the page as long as it was
+or-right : (x y : Bool) → x || y ≡ false → y ≡ false
+or-right true y e = cc
+or-right false y e = e
+
+pub same-length : (p n : ℕ) (page : List ℕ) → length (songWritten p n page) ≡ length page
+unfolding songWritten
+same-length p n page = go (isWrongP p) (isTooLong n page) refl
+  where
+    go : (x y : Bool) → isTooLong n page ≡ y → length (if x then page else if y then page else song n ++ drop n page) ≡ length page
+    go true y e = refl
+    go false true e = refl
+    go false false e =
+        let h = ltb-false (length page) n (or-right (ltb 65536 n) (ltb (length page) n) e) in
+        let l : length (song n) ≡ n = length-upTo songByte n in
+        let d = length-drop n page in
+        rw (length-append (song n) (drop n page)) (omega arith)
 
 -- a song that is answered with its thefts is what stands in the page's first n bytes
 record Fits (p n : ℕ) (page : List ℕ) : Type 0 where
