@@ -26,7 +26,7 @@ pub every-length : Reached → (p id n : ℕ) → thefts (newDevice p id) (song 
 every-length h = h
 
 -- every call that isn't refused
-pub every-call : AnswersMost → (p n : ℕ) (buffer : List ℕ) → isWrongP p ≡ false → isTooLong n buffer ≡ false → songAnswer p n buffer ≡ Thefts (mostThefts p n)
+pub every-call : AnswersMost → (p n : ℕ) (buffer : List ℕ) → isWrongP p ≡ false → isTooLong n (length buffer) ≡ false → songAnswer p n buffer ≡ Thefts (mostThefts p n)
 every-call h = h
 
 pub any-start : (p id : ℕ) → newDevice p id ≡ started p id .device

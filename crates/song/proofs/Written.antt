@@ -23,7 +23,7 @@ use Rattle.song.proofs.Played.{afterBytes, after-snoc, thefts-snoc}
 -- P, n and the old buffer; then the buffer, the device, the thefts and the turn
 pub record Turn (p n : ℕ) (old new : List ℕ) (d : Device) (t i : ℕ) : Type 0 where
   pub right : isWrongP p ≡ false
-  pub fits : isTooLong n old ≡ false
+  pub fits : isTooLong n (length old) ≡ false
   pub few : n ≤ 65536
   pub room : n ≤ length old
   pub until : i ≤ n
@@ -41,13 +41,13 @@ or-right : (a b : Bool) → a || b ≡ false → b ≡ false
 or-right true b e = absurd (let z : _≡_ {A = ℕ} 0 1 = cc in omega arith)
 or-right false b e = e
 
-short : (n : ℕ) (old : List ℕ) → isTooLong n old ≡ false → n ≤ 65536
+short : (n : ℕ) (old : List ℕ) → isTooLong n (length old) ≡ false → n ≤ 65536
 short n old e = ltb-false 65536 n (or-left (ltb 65536 n) (ltb (length old) n) e)
 
-room : (n : ℕ) (old : List ℕ) → isTooLong n old ≡ false → n ≤ length old
+room : (n : ℕ) (old : List ℕ) → isTooLong n (length old) ≡ false → n ≤ length old
 room n old e = ltb-false (length old) n (or-right (ltb 65536 n) (ltb (length old) n) e)
 
-pub turn-first : (p n : ℕ) (old : List ℕ) (o : Output) → isWrongP p ≡ false → isTooLong n old ≡ false → o ≡ started p 0 → Turn p n old old (o .device) 0 0
+pub turn-first : (p n : ℕ) (old : List ℕ) (o : Output) → isWrongP p ≡ false → isTooLong n (length old) ≡ false → o ≡ started p 0 → Turn p n old old (o .device) 0 0
 unfolding upTo afterBytes thefts
 turn-first p n old o r f e =
     record {

@@ -42,21 +42,21 @@ song n = upTo songByte n
 -- ---- the call that writes and plays it
 
 -- "25, n above 65,536 or above the buffer's length"
-abbrev pub isTooLong : ℕ → List ℕ → Bool
-isTooLong n buffer = ltb 65536 n || ltb (length buffer) n
+abbrev pub isTooLong : ℕ → ℕ → Bool
+isTooLong n room = ltb 65536 n || ltb room n
 
 -- "A wrong P gets number 1 here too"; 25 "after number 1"; else the thefts on a fresh device of polyphony P, with own ID 0
 unfoldable pub songAnswer : ℕ → ℕ → List ℕ → SongAnswer
 songAnswer p n buffer =
     if isWrongP p then WrongPolyphony else
-    if isTooLong n buffer then TooLong else
+    if isTooLong n (length buffer) then TooLong else
     Thefts (thefts (started p 0 .device) (song n))
 
 -- the buffer after it: refused, it is "untouched, as are all bytes after the n-th otherwise"
 unfoldable pub songWritten : ℕ → ℕ → List ℕ → List ℕ
 songWritten p n buffer =
     if isWrongP p then buffer else
-    if isTooLong n buffer then buffer else
+    if isTooLong n (length buffer) then buffer else
     song n ++ drop n buffer
 
 -- the number of an answer, where it has one

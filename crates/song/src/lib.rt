@@ -4,7 +4,8 @@ ghost use mathlib.Core.Path.{_≡_};
 ghost use Prim.Native.Nat.{_≤_};
 ghost use Rattle.loops.specs.Cases.{bit};
 ghost use Rattle.allocation.specs.Allocation.{isStolen};
-ghost use Rattle.song.specs.Song.{isTheft, songByte, songAnswer, songWritten};
+ghost use Rattle.device.specs.Device.{isWrongP};
+ghost use Rattle.song.specs.Song.{isTheft, songByte, isTooLong, songAnswer, songWritten};
 use allocation::Was;
 use device::Device;
 use playing::Answer;
@@ -58,14 +59,27 @@ fn theft(a: Answer) -> u32
     }
 }
 
+fn is_wrong_polyphony(polyphony: u8) -> bool
+    ensures { λ r. ⌜ r ≡ isWrongP polyphony ⌝ }
+{
+    (polyphony < 1) | (Device::MOST_GENERATORS < polyphony)
+}
+
+// Whether a song of n bytes is too long for a buffer of so many.
+fn is_too_long(n: usize, room: usize) -> bool
+    ensures { λ r. ⌜ r ≡ isTooLong n room ⌝ }
+{
+    (MOST_BYTES < n) | (room < n)
+}
+
 // Writes the song of n bytes into the buffer's first n bytes, plays each of them on a fresh device of this polyphony, and answers the thefts that the device told.
 pub fn write_song(polyphony: u8, n: usize, song: &mut [u8]) -> SongAnswer
     ensures { λ r. ⌜ (r ≡ songAnswer polyphony n (now (song .entry))) × (now (song .exit) ≡ songWritten polyphony n (now (song .entry))) ⌝ }
 {
-    if (polyphony < 1) | (Device::MOST_GENERATORS < polyphony) {
+    if is_wrong_polyphony(polyphony) {
         return SongAnswer::WrongPolyphony;
     }
-    if (MOST_BYTES < n) | (song.len() < n) {
+    if is_too_long(n, song.len()) {
         return SongAnswer::TooLong;
     }
     let mut d = device::start(polyphony, 0).device;

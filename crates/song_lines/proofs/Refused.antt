@@ -27,7 +27,7 @@ module _ (page : List ℕ) where
   unfolding songAnswer
   wrong-p p n h = rw (lt-ltb 64 p h) (go (ltb p 1))
     where
-      go : (x : Bool) → (if x || true then WrongPolyphony else if isTooLong n page then TooLong else Thefts (thefts (started p 0 .device) (song n))) ≡ WrongPolyphony
+      go : (x : Bool) → (if x || true then WrongPolyphony else if isTooLong n (length page) then TooLong else Thefts (thefts (started p 0 .device) (song n))) ≡ WrongPolyphony
       go true = refl
       go false = refl
 
@@ -72,9 +72,9 @@ or-right false y e = e
 
 pub same-length : (p n : ℕ) (page : List ℕ) → length (songWritten p n page) ≡ length page
 unfolding songWritten
-same-length p n page = go (isWrongP p) (isTooLong n page) refl
+same-length p n page = go (isWrongP p) (isTooLong n (length page)) refl
   where
-    go : (x y : Bool) → isTooLong n page ≡ y → length (if x then page else if y then page else song n ++ drop n page) ≡ length page
+    go : (x y : Bool) → isTooLong n (length page) ≡ y → length (if x then page else if y then page else song n ++ drop n page) ≡ length page
     go true y e = refl
     go false true e = refl
     go false false e =
@@ -86,13 +86,13 @@ same-length p n page = go (isWrongP p) (isTooLong n page) refl
 -- a song that is answered with its thefts is what stands in the page's first n bytes
 record Fits (p n : ℕ) (page : List ℕ) : Type 0 where
   right : isWrongP p ≡ false
-  short : isTooLong n page ≡ false
+  short : isTooLong n (length page) ≡ false
 
 fits : (p n t : ℕ) (page : List ℕ) → songAnswer p n page ≡ Thefts t → Fits p n page
 unfolding songAnswer
-fits p n t page e = go (isWrongP p) (isTooLong n page) refl refl e
+fits p n t page e = go (isWrongP p) (isTooLong n (length page)) refl refl e
   where
-    go : (x y : Bool) → isWrongP p ≡ x → isTooLong n page ≡ y → (if x then WrongPolyphony else if y then TooLong else Thefts (thefts (started p 0 .device) (song n))) ≡ Thefts t → Fits p n page
+    go : (x y : Bool) → isWrongP p ≡ x → isTooLong n (length page) ≡ y → (if x then WrongPolyphony else if y then TooLong else Thefts (thefts (started p 0 .device) (song n))) ≡ Thefts t → Fits p n page
     go true y a b e = record { right = cc; short = cc }
     go false true a b e = record { right = a; short = cc }
     go false false a b e = record { right = a; short = b }

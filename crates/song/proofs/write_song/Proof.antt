@@ -1,5 +1,6 @@
 -- `song::write_song` meets its contract: number 1 before number 25, and a loop whose invariant is `Turn`. The measure is what is left of the song.
 -- Assumes nothing.
+use mathlib.Core.Path.{sym, _∙_}
 use Prim.Native.Nat.{_-_}
 use native.Mathlib.Omega.{arith}
 use Rattle.song.specs.Song.{songAnswer, songWritten}
@@ -14,19 +15,33 @@ Inv-loop polyphony n song₀ d₀ thefts₀ i₀ song d thefts i = Turn polyphon
 abbrev μ-loop : tie.MeasureT-loop
 μ-loop polyphony n song₀ d₀ thefts₀ i₀ song d thefts i = n - i
 
+is-wrong-polyphony-requires : tie.Need-is-wrong-polyphony-requires Inv-loop μ-loop
+is-wrong-polyphony-requires c κs = search needs
+
 returns : tie.Need-returns Inv-loop μ-loop
 unfolding songAnswer songWritten
-returns c = (simp (c .if1 .taken), simp (c .if1 .taken))
+returns c =
+    let w = sym (c .before .is-wrong-polyphony .ensures) ∙ c .if1 .taken in
+    (simp w, simp w)
+
+is-too-long-requires : tie.Need-is-too-long-requires Inv-loop μ-loop
+is-too-long-requires c κs = search needs
 
 returns-2 : tie.Need-returns-2 Inv-loop μ-loop
 unfolding songAnswer songWritten
-returns-2 c = (simp (c .before .if1 .left, c .if2 .taken), simp (c .before .if1 .left, c .if2 .taken))
+returns-2 c =
+    let w = sym (c .before .before .before .is-wrong-polyphony .ensures) ∙ c .before .before .if1 .left in
+    let l = sym (c .before .is-too-long .ensures) ∙ c .if2 .taken in
+    (simp (w, l), simp (w, l))
 
 start-requires : tie.Need-start-requires Inv-loop μ-loop
 start-requires c κs = search needs
 
 loop-holds : tie.Need-loop-holds Inv-loop μ-loop
-loop-holds c = turn-first _ _ _ _ (c .before .before .before .if1 .left) (c .before .before .if2 .left) (c .before .start .ensures)
+loop-holds c =
+    let b = c .before .before in
+    let w = sym (b .before .before .before .is-wrong-polyphony .ensures) ∙ b .before .before .if1 .left in
+    turn-first _ _ _ _ w (sym (b .before .is-too-long .ensures) ∙ b .if2 .left) (c .before .start .ensures)
 
 song-byte-requires : tie.Need-song-byte-requires Inv-loop μ-loop
 song-byte-requires c κs = search needs
@@ -81,7 +96,9 @@ write-song-spec =
     (tie.spec
     Inv-loop
     μ-loop
+    is-wrong-polyphony-requires
     returns
+    is-too-long-requires
     returns-2
     start-requires
     loop-holds
