@@ -22,6 +22,11 @@ def wrong_answers(text, label):
     return found
 
 
+def unread(text):
+    """Lines that nobody reads: an old or a new text has one line, and what follows it would be passed over in silence."""
+    return [line for line in text.split("\n") if line and not re.match(r"#|(wrong|fact|file|old|new):( |$)", line)]
+
+
 def facts(text):
     """The fact of each wrong answer that names one."""
     return dict(re.findall(r"(?m)^wrong: (.*)\nfact: (.*)$", text))

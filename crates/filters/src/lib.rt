@@ -118,15 +118,6 @@ fn pitch(k: Kept, page: &mut [u8], bytes: &[u8]) -> Turn {
     written(next, page, s.used, false)
 }
 
-// Writes a song behind its P and the own ID 0, which is what the listing program reads, and answers whether that failed.
-fn write_song(page: &[u8], polyphony: u8, n: usize) -> bool {
-    let start = [polyphony, 0];
-    if write_out(Program::HardestSong, &start, 2) {
-        return true;
-    }
-    write_out(Program::HardestSong, page, n)
-}
-
 fn is_song(a: SongAnswer) -> bool {
     match a {
         SongAnswer::Thefts(_) => true,
@@ -152,19 +143,17 @@ fn answered(line: &[u8], used: usize, refused: bool) -> Outcome {
 
 // A song is written whole before its answer says so. The page is the song's buffer.
 fn give_song(page: &mut [u8], polyphony: u8, n: usize) -> Outcome {
-    let a = song::write_song(polyphony, n, page);
-    let good = is_song(a);
-    if good {
-        if write_song(page, polyphony, n) {
-            return Outcome {
-                refused: false,
-                failed: true,
-            };
-        }
+    let w = song_lines::put_song(page, polyphony, n);
+    let a = w.answer;
+    if write_out(Program::HardestSong, page, w.used) {
+        return Outcome {
+            refused: false,
+            failed: true,
+        };
     }
     let mut line = [0u8; 16];
     let used = song_lines::put_answer(&mut line, a);
-    answered(&line, used, !good)
+    answered(&line, used, !is_song(a))
 }
 
 fn malformed() -> Outcome {

@@ -72,3 +72,6 @@ GainsToldOf c r = GainsTold (c .expression) (c .volume) (c .pan) r
 -- the thefts of a song or, beside number 1 or 25, 0
 abbrev pub songNumbers : SongAnswer → SongNumbers
 songNumbers a = record { thefts = theftsIn a; number = orZero (songNumber a) }
+
+abbrev pub refusedSong : ℕ → SongNumbers
+refusedSong n = record { thefts = 0; number = n }

@@ -2,7 +2,7 @@
 ghost use mathlib.Core.Path.{_≡_};
 ghost use Rattle.queries.specs.Queries.{generatorQuery, deviceMask, deviceShare};
 ghost use Rattle.pitch.specs.Pitch.{pitchOf};
-ghost use Rattle.numbers.specs.Numbers.{wasNumber, numbersOf, generatorNumbers, maskNumbers, shareNumbers, pitchNumbers, GainsTold, GainsToldOf, songNumbers};
+ghost use Rattle.numbers.specs.Numbers.{wasNumber, numbersOf, generatorNumbers, maskNumbers, shareNumbers, pitchNumbers, GainsTold, GainsToldOf, refusedSong, songNumbers};
 use allocation::Was;
 use channels::Channel;
 use device::Device;
@@ -221,6 +221,15 @@ pub fn channel_gain_numbers(c: Channel) -> GainNumbers
     gain_numbers(c.expression, c.volume, c.pan)
 }
 
+fn refused_song(number: u8) -> SongNumbers
+    ensures { λ r. ⌜ r ≡ refusedSong number ⌝ }
+{
+    SongNumbers {
+        thefts: 0,
+        number: number,
+    }
+}
+
 pub fn song_numbers(a: SongAnswer) -> SongNumbers
     ensures { λ r. ⌜ r ≡ songNumbers a ⌝ }
 {
@@ -229,13 +238,7 @@ pub fn song_numbers(a: SongAnswer) -> SongNumbers
             thefts: thefts,
             number: 0,
         },
-        SongAnswer::WrongPolyphony => SongNumbers {
-            thefts: 0,
-            number: 1,
-        },
-        SongAnswer::TooLong => SongNumbers {
-            thefts: 0,
-            number: 25,
-        },
+        SongAnswer::WrongPolyphony => refused_song(1),
+        SongAnswer::TooLong => refused_song(25),
     }
 }

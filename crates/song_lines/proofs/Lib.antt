@@ -1,3 +1,4 @@
 pub mod Room
 pub mod Refused
 pub mod Sentences
+pub mod Page

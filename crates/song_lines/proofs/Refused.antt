@@ -1,6 +1,6 @@
 -- A P or an n that is above all that are accepted may be cut to one that is refused too: what the request gets stays. And a page may serve for the next song: it stays as long.
 -- Assumes nothing.
-use Prim.Native.Nat.{ℕ, _<_}
+use Prim.Native.Nat.{ℕ, _≤_, _<_}
 use mathlib.Core.Path.{_≡_, refl}
 use mathlib.Core.Bool.{Bool, true, false, _||_}
 use mathlib.Core.List.{List, _++_}
@@ -96,6 +96,14 @@ fits p n t page e = go (isWrongP p) (isTooLong n (length page)) refl refl e
     go true y a b e = record { right = cc; short = cc }
     go false true a b e = record { right = a; short = cc }
     go false false a b e = record { right = a; short = b }
+
+-- and it is no longer than the longest song
+or-left : (x y : Bool) → x || y ≡ false → x ≡ false
+or-left true y e = cc
+or-left false y e = refl
+
+pub song-short : (p n t : ℕ) (page : List ℕ) → songAnswer p n page ≡ Thefts t → n ≤ 65536
+song-short p n t page e = ltb-false 65536 n (or-left (ltb 65536 n) (ltb (length page) n) (fits p n t page e .short))
 
 pub song-in-page : (p n t : ℕ) (page : List ℕ) → songAnswer p n page ≡ Thefts t → take n (songWritten p n page) ≡ song n
 unfolding songWritten

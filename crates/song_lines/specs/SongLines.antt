@@ -1,9 +1,11 @@
 -- The program `hardest_song`: a request a line, `P,n` in decimal. For each a line `number,thefts` on standard error, what `songAnswer P n` answers, and on standard output
 -- the listing program's input: P, the own ID 0, and the song. All text is ASCII, and every line ends with byte 0AH.
-use Prim.Native.Nat.{ℕ}
+use Prim.Native.Nat.{ℕ, _≤_}
+use mathlib.Core.Path.{_≡_}
 use mathlib.Core.Bool.{Bool, _&&_}
 use mathlib.Core.List.{List, [], _∷_, _++_}
 use lib.Dec.{eqb}
+use lib.ListN.{length, take, drop}
 use Rattle.loops.specs.Cases.{if_then_else_, atMost, orZero}
 use Rattle.text.specs.Text.{decimal}
 use Rattle.fields.specs.declared.Line.{Line}
@@ -39,11 +41,11 @@ endRequest c = if isEmpty c then Nothing else lineRequest c
 unfoldable pub answerLine : SongAnswer → List ℕ
 answerLine a = decimal (orZero (songNumber a)) ++ (44 ∷ decimal (theftsIn a)) ++ (10 ∷ [])
 
--- what standard error gets, where the song is written into this page
+-- what standard error gets, where the song is written into this room
 abbrev pub answerTo : List ℕ → Request → List ℕ
-answerTo page Nothing = []
-answerTo page Malformed = malformedLine
-answerTo page (Song p n) = answerLine (songAnswer p n page)
+answerTo room Nothing = []
+answerTo room Malformed = malformedLine
+answerTo room (Song p n) = answerLine (songAnswer p n room)
 
 -- and what standard output gets: a refusal nothing
 abbrev pub withSong : ℕ → ℕ → SongAnswer → List ℕ
@@ -52,16 +54,22 @@ withSong p n WrongPolyphony = []
 withSong p n TooLong = []
 
 abbrev pub songTo : List ℕ → Request → List ℕ
-songTo page Nothing = []
-songTo page Malformed = []
-songTo page (Song p n) = withSong p n (songAnswer p n page)
+songTo room Nothing = []
+songTo room Malformed = []
+songTo room (Song p n) = withSong p n (songAnswer p n room)
+
+-- a song put at a page's start, where the page has room for P and the own ID before it: its answer, how many bytes standard output gets, and the page behind it
+pub record SongPut (p n : ℕ) (old : List ℕ) (a : SongAnswer) (used : ℕ) (new : List ℕ) : Type 0 where
+  pub answered : 2 ≤ length old → a ≡ songAnswer p n (drop 2 old)
+  pub put : 2 ≤ length old → take used new ≡ songTo (drop 2 old) (Song p n)
+  pub small : length old ≤ 1 → (a ≡ TooLong) × (used ≡ 0)
 
 -- what an input gets (crate `fields`, specs/Answers)
 abbrev pub answers : List ℕ → List ℕ → List ℕ
-answers page input = allAnswersBy (λ c. answerTo page (lineRequest c)) input
+answers room input = allAnswersBy (λ c. answerTo room (lineRequest c)) input
 
 abbrev pub songs : List ℕ → List ℕ → List ℕ
-songs page input = allAnswersBy (λ c. songTo page (lineRequest c)) input
+songs room input = allAnswersBy (λ c. songTo room (lineRequest c)) input
 
 -- ---- a line by its fields
 

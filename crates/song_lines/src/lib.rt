@@ -2,11 +2,13 @@
 // song is crate `song`'s, and reading and writing are the program's. Assumes nothing.
 ghost use Prim.Native.Nat.{_≤_};
 ghost use mathlib.Core.Path.{_≡_};
-ghost use lib.ListN.{length, take};
+ghost use mathlib.Core.List.{_++_};
+ghost use lib.ListN.{length, take, drop};
 ghost use Rattle.text.specs.Text.{Put};
 ghost use Rattle.fields.specs.Line.{after};
 ghost use Rattle.fields.specs.Answers.{malformedLine};
-ghost use Rattle.song_lines.specs.SongLines.{answerLine, lineRequest, request, endRequest};
+ghost use Rattle.song.specs.Song.{songAnswer, songWritten};
+ghost use Rattle.song_lines.specs.SongLines.{answerLine, lineRequest, request, endRequest, SongPut};
 use fields::Line;
 use fields::at_most;
 use song::SongAnswer;
@@ -67,6 +69,51 @@ pub fn end(c: Line) -> Request
         return Request::Nothing;
     }
     ended(c)
+}
+
+// What a song became: its answer, and how many bytes of the page standard output gets.
+pub struct Written {
+    pub answer: SongAnswer,
+    pub used: usize,
+}
+
+// The song behind the page's first two bytes, which are for P and the own ID.
+fn write_behind(page: &mut [u8], polyphony: u8, n: usize) -> SongAnswer
+    requires { ⌜ 2 ≤ length (now page) ⌝ }
+    ensures { λ r. ⌜ (r ≡ songAnswer polyphony n (drop 2 (now (page .entry)))) × (now (page .exit) ≡ take 2 (now (page .entry)) ++ songWritten polyphony n (drop 2 (now (page .entry)))) ⌝ }
+{
+    song::write_song(polyphony, n, &mut page[2..])
+}
+
+// A song at the page's start, behind its P and the own ID 0, which is what standard output gets; a refused one gets nothing. A page without two bytes has no room for one.
+pub fn put_song(page: &mut [u8], polyphony: u8, n: usize) -> Written
+    ensures { λ r. ⌜ SongPut polyphony n (now (page .entry)) (r .answer) (r .used) (now (page .exit)) ⌝ }
+{
+    if page.len() < 2 {
+        return Written {
+            answer: SongAnswer::TooLong,
+            used: 0,
+        };
+    }
+    let a = write_behind(page, polyphony, n);
+    match a {
+        SongAnswer::Thefts(t) => {
+            page[0] = polyphony;
+            page[1] = 0;
+            Written {
+                answer: SongAnswer::Thefts(t),
+                used: n + 2,
+            }
+        }
+        SongAnswer::WrongPolyphony => Written {
+            answer: SongAnswer::WrongPolyphony,
+            used: 0,
+        },
+        SongAnswer::TooLong => Written {
+            answer: SongAnswer::TooLong,
+            used: 0,
+        },
+    }
 }
 
 // The answer's line, at the page's start. Where the page has 16 bytes, what stands before the place that it answers is the line, whole.
