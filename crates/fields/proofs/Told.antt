@@ -45,9 +45,13 @@ first x f e =
     record { comma = not-true (eqb x 44) (p .0); end = not-true (eqb x 10) (q .0); others = q .1 }
 
 -- a test that decides nothing
-never : (x : Bool) {A : Type 0} (a b : A) → (if x && false then a else b) ≡ b
+pub never : (x : Bool) {A : Type 0} (a b : A) → (if x && false then a else b) ≡ b
 never true a b = refl
 never false a b = refl
+
+pub either : (x : Bool) {A : Type 0} (b : A) → (if x && true then b else b) ≡ b
+either true b = refl
+either false b = refl
 
 module _ (commas : ℕ) (by : ℕ → ℕ → ℕ → List ℕ) (other : List ℕ) where
   -- what the fields of a line answer where r numbers are read, k and s the last of them

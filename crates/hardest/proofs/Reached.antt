@@ -193,4 +193,4 @@ pub answers-most : AnswersMost
 unfolding songAnswer
 answers-most p n buffer r f =
     let h = in-range p r in
-    rw (r, f) (ap Thefts (ap (λ (d : Device). thefts d (song n)) (started-fresh p r) ∙ reaches p 0 (h .0) (h .1) n))
+    rw (r, f) (ap Thefts (ap (λ (d : Device). thefts d (song n)) (started-fresh p 0 r (omega arith)) ∙ reaches p 0 (h .0) (h .1) n))

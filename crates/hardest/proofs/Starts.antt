@@ -4,7 +4,7 @@ use mathlib.Core.Path.{_≡_, refl}
 use mathlib.Core.Bool.{Bool, true, false, _||_}
 use Prim.Native.Nat.{ℕ, _≤_}
 use native.Mathlib.Omega.{arith}
-use borrow.Author.Tests.{ltb-false}
+use borrow.Author.Tests.{ltb-false, le-ltb}
 use lib.Dec.{ltb}
 use Rattle.loops.specs.Cases.{if_then_else_}
 use Rattle.playing.specs.declared.Answer.the-variants as answer
@@ -33,7 +33,10 @@ every-start Q f p id = go (isWrongP p) refl (ltb 126 id)
     go false e true = one
     go false e false = let r = in-range p e in f p id (r .0) (r .1)
 
--- an accepted P is the device's
-pub started-fresh : (p : ℕ) → isWrongP p ≡ false → started p 0 .device ≡ freshDevice p 0
+-- an accepted P and own ID are the device's
+pub started-fresh : (p id : ℕ) → isWrongP p ≡ false → id ≤ 126 → started p id .device ≡ freshDevice p id
 unfolding started
-started-fresh p e = rw e
+started-fresh p id e h = rw (e, le-ltb 126 id h)
+
+pub is-right : (p : ℕ) → 1 ≤ p → p ≤ 64 → isWrongP p ≡ false
+is-right p lo hi = rw (le-ltb p 1 lo, le-ltb 64 p hi)

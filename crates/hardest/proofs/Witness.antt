@@ -1,10 +1,10 @@
 -- The claims bite. First their words, whatever the device: a claim that is narrowed or emptied behind its name would not give these facts. Then what a driver's team draws from the
 -- claims alone: the queue for the longest song, and a bound for a song of SysEx, resets and MIP messages that nobody played.
 -- Assumes nothing.
-use mathlib.Core.Path.{_≡_, refl}
+use mathlib.Core.Path.{_≡_, refl, ap, _∙_, subst}
 use mathlib.Core.Bool.{false}
 use mathlib.Core.List.{List, [], _∷_}
-use Prim.Native.Nat.{ℕ, _-_, _/_, _≤_}
+use Prim.Native.Nat.{ℕ, _≤_}
 use lib.ListN.{length}
 use Rattle.instrument.specs.Instrument.{fresh}
 use Rattle.device.specs.declared.Device.{Device}
@@ -12,6 +12,7 @@ use Rattle.device.specs.Device.{isWrongP, started}
 use Rattle.song.specs.declared.SongAnswer.the-variants.{Thefts}
 use Rattle.song.specs.Song.{thefts, song, isTooLong, songAnswer}
 use Rattle.hardest.specs.Hardest.{mostThefts, newDevice, polyphonyOf, NoWorse, Reached, AnswersMost}
+use Rattle.hardest.proofs.Starts.{started-fresh, is-right}
 use Rattle.hardest.proofs.Worst.{no-worse}
 use Rattle.hardest.proofs.Reached.{reached}
 
@@ -41,6 +42,18 @@ unfolding mostThefts
 some-thefts = (refl, refl, refl, refl)
 
 -- ---- from the claims alone
+
+-- the ticket's own words: a device of P generators, P from 1 to 64, and any own ID that a start accepts
+module _ (p id : ℕ) (lo : 1 ≤ p) (hi : p ≤ 64) (h : id ≤ 126) where
+  has-p : polyphonyOf (newDevice p id) ≡ p
+  unfolding fresh
+  has-p = ap polyphonyOf (started-fresh p id (is-right p lo hi) h)
+
+  pub at-most : (l : List ℕ) → thefts (newDevice p id) l ≤ mostThefts p (length l)
+  at-most l = subst (λ (q : ℕ). thefts (newDevice p id) l ≤ mostThefts q (length l)) has-p (no-worse p id l)
+
+  pub as-many : (n : ℕ) → thefts (newDevice p id) (song n) ≡ mostThefts p n
+  as-many n = reached p id n ∙ ap (λ (q : ℕ). mostThefts q n) has-p
 
 -- the longest song at P 64, with own ID 126
 pub longest : thefts (newDevice 64 126) (song 65536) ≡ 32703

@@ -13,7 +13,7 @@ use Rattle.fields.specs.declared.Line.{Line}
 use Rattle.fields.specs.Line.{kept}
 use Rattle.fields.specs.Answers.{malformedLine}
 use Rattle.fields.specs.Fields.{isField, areFields, lineEnds, behind, numberFrom, isNumber, spelled}
-use Rattle.fields.proofs.Told.{Reads, told}
+use Rattle.fields.proofs.Told.{Reads, told, never, either}
 use Rattle.fields.proofs.Written.{written, ends-parts, ends-decimal}
 use Rattle.fields.proofs.Sentences as sentences
 use Rattle.pitch.specs.declared.PitchAnswer.{PitchAnswer}
@@ -41,14 +41,6 @@ abbrev toldBy : List ℕ → List (List ℕ) → List ℕ
 toldBy f gs = told 2 by malformedLine 0 0 0 f gs
 
 -- a test that decides nothing
-never : (x : Bool) (a b : List ℕ) → (if x && false then a else b) ≡ b
-never true a b = refl
-never false a b = refl
-
-either : (x : Bool) (b : List ℕ) → (if x && true then b else b) ≡ b
-either true b = refl
-either false b = refl
-
 all-three : (x y z : Bool) (a b : List ℕ)
     → (if x && true then (if y && true then (if z && true then a else b) else b) else b) ≡ (if x && (y && z) then a else b)
 all-three true true true a b = refl

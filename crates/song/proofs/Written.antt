@@ -41,10 +41,11 @@ or-right : (a b : Bool) → a || b ≡ false → b ≡ false
 or-right true b e = absurd (let z : _≡_ {A = ℕ} 0 1 = cc in omega arith)
 or-right false b e = e
 
-short : (n : ℕ) (old : List ℕ) → isTooLong n (length old) ≡ false → n ≤ 65536
+-- what is not too long
+pub short : (n : ℕ) (old : List ℕ) → isTooLong n (length old) ≡ false → n ≤ 65536
 short n old e = ltb-false 65536 n (or-left (ltb 65536 n) (ltb (length old) n) e)
 
-room : (n : ℕ) (old : List ℕ) → isTooLong n (length old) ≡ false → n ≤ length old
+pub room : (n : ℕ) (old : List ℕ) → isTooLong n (length old) ≡ false → n ≤ length old
 room n old e = ltb-false (length old) n (or-right (ltb 65536 n) (ltb (length old) n) e)
 
 pub turn-first : (p n : ℕ) (old : List ℕ) (o : Output) → isWrongP p ≡ false → isTooLong n (length old) ≡ false → o ≡ started p 0 → Turn p n old old (o .device) 0 0

@@ -8,7 +8,7 @@ use lib.ListN.{length, take, drop, set, length-drop, drop-of-length-le}
 use lib.Seq.{take-all}
 use Rattle.song.specs.declared.SongAnswer.{SongAnswer}
 use Rattle.song.specs.declared.SongAnswer.the-variants.{Thefts, WrongPolyphony, TooLong}
-use Rattle.song.specs.Song.{song, songAnswer, songWritten}
+use Rattle.song.specs.Song.{songAnswer, songWritten}
 use Rattle.song_lines.specs.declared.Request.the-variants.{Song}
 use Rattle.song_lines.specs.SongLines.{songTo, SongPut}
 use Rattle.song_lines.proofs.Refused.{song-in-page}

@@ -15,6 +15,7 @@ use Rattle.device.specs.Device.{isWrongP, started}
 use Rattle.song.specs.declared.SongAnswer.{SongAnswer}
 use Rattle.song.specs.declared.SongAnswer.the-variants.{Thefts, WrongPolyphony, TooLong}
 use Rattle.song.specs.Song.{thefts, songByte, song, isTooLong, songAnswer, songWritten}
+use Rattle.song.proofs.Written.{short, room}
 
 -- ---- refused
 
@@ -66,10 +67,6 @@ unfolding songAnswer
 same-room p n page other e = rw e
 
 -- and a request leaves the page as long as it was
-or-right : (x y : Bool) → x || y ≡ false → y ≡ false
-or-right true y e = cc
-or-right false y e = e
-
 pub same-length : (p n : ℕ) (page : List ℕ) → length (songWritten p n page) ≡ length page
 unfolding songWritten
 same-length p n page = go (isWrongP p) (isTooLong n (length page)) refl
@@ -78,7 +75,7 @@ same-length p n page = go (isWrongP p) (isTooLong n (length page)) refl
     go true y e = refl
     go false true e = refl
     go false false e =
-        let h = ltb-false (length page) n (or-right (ltb 65536 n) (ltb (length page) n) e) in
+        let h = room n page e in
         let l : length (song n) ≡ n = length-upTo songByte n in
         let d = length-drop n page in
         rw (length-append (song n) (drop n page)) (omega arith)
@@ -86,25 +83,21 @@ same-length p n page = go (isWrongP p) (isTooLong n (length page)) refl
 -- a song that is answered with its thefts is what stands in the page's first n bytes
 record Fits (p n : ℕ) (page : List ℕ) : Type 0 where
   right : isWrongP p ≡ false
-  short : isTooLong n (length page) ≡ false
+  fitting : isTooLong n (length page) ≡ false
 
 fits : (p n t : ℕ) (page : List ℕ) → songAnswer p n page ≡ Thefts t → Fits p n page
 unfolding songAnswer
 fits p n t page e = go (isWrongP p) (isTooLong n (length page)) refl refl e
   where
     go : (x y : Bool) → isWrongP p ≡ x → isTooLong n (length page) ≡ y → (if x then WrongPolyphony else if y then TooLong else Thefts (thefts (started p 0 .device) (song n))) ≡ Thefts t → Fits p n page
-    go true y a b e = record { right = cc; short = cc }
-    go false true a b e = record { right = a; short = cc }
-    go false false a b e = record { right = a; short = b }
+    go true y a b e = record { right = cc; fitting = cc }
+    go false true a b e = record { right = a; fitting = cc }
+    go false false a b e = record { right = a; fitting = b }
 
 -- and it is no longer than the longest song
-or-left : (x y : Bool) → x || y ≡ false → x ≡ false
-or-left true y e = cc
-or-left false y e = refl
-
 pub song-short : (p n t : ℕ) (page : List ℕ) → songAnswer p n page ≡ Thefts t → n ≤ 65536
-song-short p n t page e = ltb-false 65536 n (or-left (ltb 65536 n) (ltb (length page) n) (fits p n t page e .short))
+song-short p n t page e = short n page (fits p n t page e .fitting)
 
 pub song-in-page : (p n t : ℕ) (page : List ℕ) → songAnswer p n page ≡ Thefts t → take n (songWritten p n page) ≡ song n
 unfolding songWritten
-song-in-page p n t page e = let f = fits p n t page e in rw (f .right, f .short) (take-at (song n) (drop n page) n (length-upTo songByte n))
+song-in-page p n t page e = let f = fits p n t page e in rw (f .right, f .fitting) (take-at (song n) (drop n page) n (length-upTo songByte n))

@@ -1,6 +1,6 @@
 -- What an input gets, said of lines and their fields and not of bytes: the laws of crate `fields` for what a request gets, on standard error and on standard output.
 -- Assumes nothing.
-use Prim.Native.Nat.{ℕ, _+_, _^_, _<_}
+use Prim.Native.Nat.{ℕ, _^_, _<_}
 use mathlib.Core.Path.{_≡_, refl, _∙_}
 use mathlib.Core.Bool.{Bool, true, false, _&&_}
 use mathlib.Core.List.{List, [], _∷_, _++_}
@@ -12,7 +12,7 @@ use Rattle.fields.specs.declared.Line.{Line}
 use Rattle.fields.specs.Line.{kept, isEmpty}
 use Rattle.fields.specs.Answers.{malformedLine, answerBy, answersBy, endAnswerBy, allAnswersBy}
 use Rattle.fields.specs.Fields.{isField, areFields, lineEnds, behind, numberFrom, isNumber, spelled}
-use Rattle.fields.proofs.Told.{Reads, told}
+use Rattle.fields.proofs.Told.{Reads, told, never, either}
 use Rattle.fields.proofs.Written.{written, ends-parts, ends-decimal}
 use Rattle.fields.proofs.Sentences as sentences
 use Rattle.song.specs.declared.SongAnswer.{SongAnswer}
@@ -29,14 +29,6 @@ record Gets (gets : Request → List ℕ) : Type 0 where
   nothing : gets Nothing ≡ []
   p : (most p n : ℕ) → 64 < most → gets (Song (atMost most p) n) ≡ gets (Song p n)
   n : (most p n : ℕ) → 65536 < most → gets (Song p (atMost most n)) ≡ gets (Song p n)
-
-never : (x : Bool) (a b : List ℕ) → (if x && false then a else b) ≡ b
-never true a b = refl
-never false a b = refl
-
-either : (x : Bool) (b : List ℕ) → (if x && true then b else b) ≡ b
-either true b = refl
-either false b = refl
 
 module _ (gets : Request → List ℕ) (g : Gets gets) where
   reads : Reads (λ c. gets (lineRequest c)) 1 (λ k p n. gets (Song p n)) (gets Malformed)
