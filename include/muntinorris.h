@@ -40,7 +40,7 @@ extern "C" {
 #define MUNTINORRIS_WAS_STOLEN 2  /* it was busy: its note is lost */
 
 /* The numbers of documents 01 and 02, and what each leaves behind. */
-#define MUNTINORRIS_BAD_POLYPHONY 1      /* start: the polyphony is not 1 to 64. A fresh record of polyphony 1 and own ID 0. Song: the same. The buffer is untouched */
+#define MUNTINORRIS_BAD_POLYPHONY 1      /* start, song: the polyphony is not 1 to 64. A start leaves a fresh record of polyphony 1 and own ID 0, a song the buffer as it was */
 #define MUNTINORRIS_BAD_ID 2             /* start: the own ID is above 126. The same */
 #define MUNTINORRIS_STRAY_DATA 3         /* a data byte with no status, SysEx or swallowing. No change */
 #define MUNTINORRIS_SYSEX_CUT 4          /* a SysEx was cut by a status below F7. The SysEx is dropped, the status taken */
@@ -228,8 +228,8 @@ struct muntinorris_gains_answer muntinorris_channel_gains(const struct muntinorr
 /*
  * The hardest song of n bytes, 0 to 65,536, for a fresh device of this polyphony: it goes into the first n bytes of the buffer, whose other bytes stay. The caller owns the buffer
  * and lends it for the call; length is all that it has, and with length 0 the pointer is not looked at. Each byte is played as it is written, on a device that the call
- * makes for itself, and thefts counts the note-ons that were answered MUNTINORRIS_WAS_STOLEN. They come to (n - 1) / 2, rounded down, less the polyphony, and to 0 where that is negative
- * or n is 0; without reports no n bytes make more, whatever they are. The song is 90H, and then for j = 0, 1, 2, .. key j mod 128 and velocity 64. Number 1, else 25.
+ * makes for itself, and thefts counts the note-ons that were answered MUNTINORRIS_WAS_STOLEN. They come to (n - 1) / 2, rounded down, less the polyphony, and to 0 up to n = 2 * polyphony + 2;
+ * without reports no n bytes make more, whatever they are. It takes some 6 KB of stack (x86-64). The song is 90H, and then for j = 0, 1, 2, .. key j mod 128 and velocity 64. Number 1, else 25.
  */
 struct muntinorris_song_answer muntinorris_write_song(uint8_t polyphony, size_t n, uint8_t *song, size_t length);
 

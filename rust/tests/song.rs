@@ -47,7 +47,8 @@ fn refused_songs_leave_the_buffer() {
 /// Songs of a driver's nightmares, none of which is worse: notes on all channels, drums, pedals, running status broken by real-time bytes, MIP messages, resets.
 #[test]
 fn no_other_song_does_worse() {
-    let songs: [&[u8]; 5] = [
+    let songs: [&[u8]; 6] = [
+        &[0x9F, 127, 1, 126, 1, 125, 1, 124, 1, 123, 1, 122, 1],
         &[0x90, 60, 64, 0x91, 60, 64, 0x92, 60, 64, 0x93, 60, 64],
         &[0x99, 42, 64, 44, 64, 46, 64, 35, 64, 36, 64, 37, 64],
         &[0xB0, 64, 127, 0x90, 60, 64, 60, 0, 61, 64, 61, 0, 62, 64],
@@ -58,5 +59,7 @@ fn no_other_song_does_worse() {
         for song in songs {
             assert!((0..=song.len()).all(|n| thefts(polyphony, 0, &song[..n]) <= most(polyphony, n)), "{polyphony} {song:?}");
         }
+        // the first is as hard as ours, so that a bound one lower would be noticed
+        assert_eq!(thefts(polyphony, 0, songs[0]), most(polyphony, songs[0].len()));
     }
 }

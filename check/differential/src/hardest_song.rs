@@ -68,6 +68,8 @@ impl Memory {
 /// What was compared.
 #[derive(Clone, Copy, Debug, Default)]
 pub struct Compared {
+    pub calls: u64,
+    /// Songs that were written, and played anew on both devices.
     pub songs: u64,
     /// By number 1 and by number 25.
     pub bad_polyphony: u64,
@@ -94,9 +96,10 @@ pub fn compare(
         let mut memory = Memory::new(call);
         let answer = write(call, &mut memory);
         let judged = judge(call, answer, &memory).map_err(|found| words(call, &found))?;
-        compared.songs += 1;
+        compared.calls += 1;
         match judged {
             Ok(thefts) => {
+                compared.songs += 1;
                 compared.thefts += u64::from(thefts);
                 if against == HeldAgainst::DocumentedBytes {
                     let song = &memory.buffer()[..call.n];

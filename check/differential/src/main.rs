@@ -203,9 +203,10 @@ fn songs(tally: &mut Tally) -> Result<(), String> {
     tally.refused(Number::PolyphonyOutOfRange, compared.bad_polyphony);
     tally.refused(Number::SongTooLong, compared.too_long);
     println!(
-        "{} songs compared, {} of them refused, no difference; {} thefts; {nowhere} calls without a buffer; {played} songs of the second implementation played, {:.1} s",
-        compared.songs,
+        "{} calls for songs compared, {} of them refused, no difference; {} songs played anew on both sides, {} thefts; {nowhere} calls without a buffer; {played} songs of the second implementation played, {:.1} s",
+        compared.calls,
         compared.bad_polyphony + compared.too_long,
+        compared.songs,
         compared.thefts,
         clock.elapsed().as_secs_f64()
     );

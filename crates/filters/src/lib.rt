@@ -1,5 +1,5 @@
-// The programs that read standard input and write standard output, each as a function that answers its exit status. One loop for all of them: it reads an input of any
-// length, and writes what is known before it waits for more. What the bytes answer is in crates `listed`, `pitch_lines` and `song_lines`. Assumes the contracts of the C
+// The programs that read standard input and write standard output, each as a function that answers its exit status. One loop reads for all of them, an input of any
+// length, and what is known is written before more is waited for; the answers to requests of songs go to standard error. What the bytes answer is in crates `listed`, `pitch_lines` and `song_lines`. Assumes the contracts of the C
 // library's read and write, and nothing else.
 ghost use Prim.Native.Nat.{_≤_};
 use console::Input;
