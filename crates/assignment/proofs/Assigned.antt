@@ -13,6 +13,7 @@ use lib.Seq.{getD-set-same, getD-set-other}
 use Rattle.loops.specs.Cases.{if_then_else_, bit}
 use Rattle.loops.specs.Passes.{upTo, total, filterBy, count, padded}
 use Rattle.loops.proofs.Fill.{at-upTo, length-upTo}
+use Rattle.loops.proofs.Tests.{and-left}
 use Rattle.loops.proofs.Totals.{total-same, total-bits}
 use Rattle.loops.proofs.Search.{filter-append, filter-filter, filter-same, filter-length}
 use Rattle.loops.proofs.Occurs.{occurs, occurs-filter, occurs-snoc, length-total, total-hole}
@@ -146,10 +147,6 @@ unidle x true t e =
     absurd (let y : _≡_ {A = ℕ} 0 1 = cc in omega arith)
 unidle x false t e = refl
 
-first-true : (a b : Bool) → (a && b) ≡ true → a ≡ true
-first-true true b e = refl
-first-true false b e = e
-
 or-left : (a b : Bool) → a ≡ true → (a || b) ≡ true
 or-left a b e = rw e
 
@@ -159,11 +156,11 @@ or-right false b e = e
 
 pub change-busy : (h : Change) (x : Generator) → changes h x ≡ true → (isHeld x || isSustained x) ≡ true
 unfolding changes
-change-busy (ReleaseNote c k) x e = first-true _ (isOn c x) (first-true _ (eqb (x .key) k) e)
-change-busy (ReleaseChannel c) x e = first-true _ (isOn c x) e
-change-busy (NoteOff pedal c k) x e = or-left (isHeld x) _ (first-true _ (isOn c x) (first-true _ (eqb (x .key) k) e))
-change-busy (AllNotesOff pedal c) x e = or-left (isHeld x) _ (first-true _ (isOn c x) e)
-change-busy (PedalUp c) x e = or-right (isHeld x) (isSustained x) (first-true _ (isOn c x) e)
+change-busy (ReleaseNote c k) x e = and-left _ (isOn c x) (and-left _ (eqb (x .key) k) e)
+change-busy (ReleaseChannel c) x e = and-left _ (isOn c x) e
+change-busy (NoteOff pedal c k) x e = or-left (isHeld x) _ (and-left _ (isOn c x) (and-left _ (eqb (x .key) k) e))
+change-busy (AllNotesOff pedal c) x e = or-left (isHeld x) _ (and-left _ (isOn c x) e)
+change-busy (PedalUp c) x e = or-right (isHeld x) (isSustained x) (and-left _ (isOn c x) e)
 
 -- the state that a change leads to is not idle
 up-sounds : (pedal : Bool) → eqb (keyUp pedal) 0 ≡ false

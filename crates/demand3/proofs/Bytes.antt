@@ -10,6 +10,7 @@ use borrow.Author.Tests.{ltb-false}
 use lib.Dec.{eqb, ltb}
 use lib.ListN.{drop}
 use Rattle.loops.specs.Cases.{if_then_else_}
+use Rattle.loops.proofs.Tests.{or-right}
 use Rattle.splitter.specs.declared.Parser.{Parser}
 use Rattle.splitter.specs.declared.Completed.{Completed}
 use Rattle.splitter.specs.declared.Completed.the-variants as completed
@@ -136,15 +137,11 @@ fine-begin p id = go (ltb p 1 || ltb 64 p) refl (ltb 126 id)
     begun : Output → Both
     begun o = record { device = o .device; book = startBook p id (o .answer) }
 
-    first-false : (a b : Bool) → a || b ≡ false → b ≡ false
-    first-false true b e = absurd (let z : _≡_ {A = ℕ} 0 1 = cc in omega arith)
-    first-false false b e = e
-
     go : (x : Bool) → ltb p 1 || ltb 64 p ≡ x → (y : Bool)
         → Fine Live lawful (begun (if x then freshOutput (answer.Number 1) 1 0 else if y then freshOutput (answer.Number 2) 1 0 else freshOutput answer.Done p id))
     go true e y = fine-fresh 1 0 (omega arith)
     go false e true = fine-fresh 1 0 (omega arith)
-    go false e false = fine-fresh p id (ltb-false 64 p (first-false (ltb p 1) (ltb 64 p) e))
+    go false e false = fine-fresh p id (ltb-false 64 p (or-right (ltb p 1) (ltb 64 p) e))
 
 -- Demand 3: for every start, refused ones too, and every list of bytes and reports.
 pub demand-3 : (p id : ℕ) (l : List Event) → Demand3 Live (begin p id) l

@@ -10,6 +10,7 @@ use lib.Dec.{eqb, leb, ltb}
 use lib.ListN.{length, getD, set, replicate, length-set, getD-replicate, List·getD-eq-default}
 use lib.Seq.{getD-set-same, getD-set-other}
 use Rattle.loops.specs.Cases.{if_then_else_, bit}
+use Rattle.loops.proofs.Tests.{and-left}
 use Rattle.message.specs.declared.Message.{Message}
 use Rattle.message.specs.declared.Message.the-variants.{NoteOn, NoteOff, Control, Program, Bend, Other}
 use Rattle.table.specs.declared.Entry.{Entry}
@@ -113,13 +114,9 @@ controlled-hold : (x : Channel) (n v : ℕ) → controlled x n v .hold ≡ holdA
 unfolding controlled dataEntry reset stored
 controlled-hold x n v = go (eqb n 64) refl (eqb n 121 && eqb v 0) refl
   where
-    both : (a b : Bool) → a && b ≡ true → a ≡ true
-    both true b e = refl
-    both false b e = e
-
     go : (a : Bool) → eqb n 64 ≡ a → (b : Bool) → eqb n 121 && eqb v 0 ≡ b → controlled x n v .hold ≡ (if a then v else if b then 0 else x .hold)
     go true p b q = rw (eqb-true n 64 p)
-    go false p true q = let e = eqb-true n 121 (both (eqb n 121) (eqb v 0) q) in rw q (rw e)
+    go false p true q = let e = eqb-true n 121 (and-left (eqb n 121) (eqb v 0) q) in rw q (rw e)
     go false p false q =
         rw (p, q)
         (hold-if (eqb n 6) _ _ (x .hold) (hold-if (eqb (x .«rpn_msb») 0 && eqb (x .«rpn_lsb») 0) _ _ (x .hold) refl refl)

@@ -6,3 +6,4 @@ pub mod Padded
 pub mod Totals
 pub mod Search
 pub mod Sweep
+pub mod Tests

@@ -10,7 +10,7 @@ use lib.Dec.{eqb, ltb}
 use lib.ListN.{length}
 use Rattle.loops.specs.Cases.{if_then_else_, bit}
 use Rattle.loops.specs.Passes.{total, filterBy, count}
-use Rattle.loops.proofs.Totals.{bit-le, total-bits, total-add}
+use Rattle.loops.proofs.Totals.{bit-le, total-zero, total-bits, total-add}
 use Rattle.loops.proofs.Search.{count-append}
 
 abbrev pub occurs : ℕ → List ℕ → ℕ
@@ -43,11 +43,6 @@ occurs-filter p h (x ∷ l) = go (eqb x h) (p x) (p h) refl refl refl (occurs-fi
 pub occurs-snoc : (h g : ℕ) (l : List ℕ) → occurs h (l ++ (g ∷ [])) ≡ occurs h l + bit (eqb g h)
 unfolding count
 occurs-snoc h g l = let k = count-append (λ (x : ℕ). eqb x h) l (g ∷ []) in omega arith
-
-total-zero : (n : ℕ) → total (λ h. 0) n ≡ 0
-unfolding total
-total-zero zero = refl
-total-zero (suc n) = let k = total-zero n in omega arith
 
 -- one number among the first n
 total-one : (x n : ℕ) → total (λ h. bit (eqb x h)) n ≡ bit (ltb x n)

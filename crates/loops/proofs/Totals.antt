@@ -23,6 +23,12 @@ unfolding total
 total-same f g zero h = refl
 total-same f g (suc n) h = rw (total-same f g n (λ i k. h i (omega arith)), h n (omega arith))
 
+-- nothing adds up to nothing
+pub total-zero : (n : ℕ) → total (λ i. 0) n ≡ 0
+unfolding total
+total-zero zero = refl
+total-zero (suc n) = let k = total-zero n in omega arith
+
 -- a count is at most the number of places
 pub total-bits : (t : ℕ → Bool) (n : ℕ) → total (λ i. bit (t i)) n ≤ n
 unfolding total

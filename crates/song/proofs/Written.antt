@@ -12,6 +12,7 @@ use lib.ListN.{length, drop, set, length-set}
 use Rattle.loops.specs.Cases.{bit}
 use Rattle.loops.specs.Passes.{upTo}
 use Rattle.loops.proofs.Fill.{fill-next}
+use Rattle.loops.proofs.Tests.{or-left, or-right}
 use Rattle.loops.proofs.Totals.{bit-le}
 use Rattle.device.specs.declared.Device.{Device}
 use Rattle.device.specs.declared.Output.{Output}
@@ -32,14 +33,6 @@ pub record Turn (p n : ℕ) (old new : List ℕ) (d : Device) (t i : ℕ) : Type
   pub device : d ≡ afterBytes (started p 0 .device) (song i)
   pub counted : t ≡ thefts (started p 0 .device) (song i)
   pub less : t ≤ i
-
-or-left : (a b : Bool) → a || b ≡ false → a ≡ false
-or-left true b e = e
-or-left false b e = refl
-
-or-right : (a b : Bool) → a || b ≡ false → b ≡ false
-or-right true b e = absurd (let z : _≡_ {A = ℕ} 0 1 = cc in omega arith)
-or-right false b e = e
 
 -- what is not too long
 pub short : (n : ℕ) (old : List ℕ) → isTooLong n (length old) ≡ false → n ≤ 65536

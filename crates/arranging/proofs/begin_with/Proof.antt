@@ -1,0 +1,20 @@
+-- `arranging::begin_with` meets its contract: the record of a start, no line yet, and 16 where there is no order.
+-- Assumes nothing.
+use mathlib.Core.Path.{_≡_, refl}
+use Rattle.arranging.specs.Run.{begunBy}
+use borrow.Author.Needs.{needs}
+use Rattle.arranging.proofs.begin_with.Statement.{statement}
+use Rattle.arranging.proofs.begin_with.Tie as tie
+
+start-requires : tie.Need-start-requires
+start-requires c κs = search needs
+
+new-requires : tie.Need-new-requires
+new-requires c κs = search needs
+
+returns : tie.Need-returns
+unfolding begunBy
+returns c = simp (c .new .ensures)
+
+pub begin-with-spec : {M : Type 1} → statement M
+begin-with-spec = tie.close (tie.spec start-requires new-requires returns)

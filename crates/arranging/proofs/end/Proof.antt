@@ -1,0 +1,25 @@
+-- `arranging::end` meets its contract: a number that fell is told, else the song ends.
+-- Assumes nothing.
+use mathlib.Core.Path.{_≡_, refl, sym, ap, _∙_}
+use borrow.Author.Tests.{eq-eqb, ne-eqb}
+use Rattle.arranging.specs.Run.{finished}
+use borrow.Author.Needs.{needs}
+use Rattle.arranging.proofs.end.Statement.{statement}
+use Rattle.arranging.proofs.end.Tie as tie
+
+refuse-requires : tie.Need-refuse-requires
+refuse-requires c κs = search needs
+
+returns : tie.Need-returns
+unfolding finished
+returns c = simp (ne-eqb _ _ (c .before .if1 .taken), c .refuse .ensures)
+
+end-song-requires : tie.Need-end-song-requires
+end-song-requires c κs = search needs
+
+returns-2 : tie.Need-returns-2
+unfolding finished
+returns-2 c = simp (eq-eqb _ _ (c .before .if1 .left), c .end-song .ensures)
+
+pub end-spec : {M : Type 1} → statement M
+end-spec = tie.close (tie.spec refuse-requires returns end-song-requires returns-2)

@@ -1,0 +1,28 @@
+-- `arranging::message` meets its contract: one part is the whole log.
+-- Assumes nothing.
+use mathlib.Core.Path.{ap, _∙_}
+use Rattle.arranging.specs.declared.Run.{Run}
+use Rattle.arranging.specs.Run.{heard, finished}
+use Rattle.arranging.proofs.Parts.{parts}
+use borrow.Author.Needs.{needs}
+use Rattle.arranging.proofs.message.Statement.{statement}
+use Rattle.arranging.proofs.message.Tie as tie
+
+begin-requires : tie.Need-begin-requires
+begin-requires c κs = search needs
+
+take-requires : tie.Need-take-requires
+take-requires c κs = search needs
+
+end-requires : tie.Need-end-requires
+end-requires c κs = search needs
+
+returns : tie.Need-returns
+returns c =
+    let a = c .before .before .before .before .before .args in
+    c .end .ensures
+    ∙ ap finished (c .before .take .ensures ∙ ap (λ (r : Run). heard r (a .log .now)) (c .before .before .begin .ensures))
+    ∙ parts (a .order .now) (a .log .now)
+
+pub message-spec : {M : Type 1} → statement M
+message-spec = tie.close (tie.spec begin-requires take-requires end-requires returns)

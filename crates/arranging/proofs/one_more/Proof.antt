@@ -1,0 +1,21 @@
+-- `arranging::one_more` meets its contract: below the last number that is told the next one is told as it is.
+-- Assumes nothing.
+use mathlib.Core.Path.{_≡_, refl}
+use Prim.Native.Nat.{ℕ, _+_, _≤_, _<_}
+use native.Mathlib.Omega.{arith}
+use Rattle.arranging.proofs.Told.{told-next, told-last}
+use borrow.Author.Needs.{needs}
+use Rattle.arranging.proofs.one_more.Statement.{statement}
+use Rattle.arranging.proofs.one_more.Tie as tie
+
+add-result : tie.Need-add-result
+add-result c = search needs
+
+returns : tie.Need-returns
+returns c = told-next _ (c .before .if1 .taken)
+
+returns-2 : tie.Need-returns-2
+returns-2 c = told-last _ (c .if1 .left)
+
+pub one-more-spec : {M : Type 1} → statement M
+one-more-spec = tie.close (tie.spec add-result returns returns-2)

@@ -1,0 +1,48 @@
+-- `joint::next_joint` meets its contract: a channel that stood before adds nothing, another adds its busy generators.
+-- Assumes nothing.
+use Prim.Native.Nat.{ℕ, _+_, _-_, _*_, _/_, _%_, _≤_, _<_}
+use mathlib.Core.Path.{_≡_, refl, sym, ap, _∙_}
+use mathlib.Core.Bool.{true, false}
+use mathlib.Core.List.{List, _++_}
+use native.Mathlib.Omega.{arith}
+use lib.Dec.{eqb}
+use lib.ListN.{length, take, drop, getD}
+use lib.Seq.{take-all}
+use Rattle.joint.proofs.Channels.{joint-same, joint-more, busy-64}
+use borrow.Author.Needs.{needs}
+use Rattle.joint.proofs.next_joint.Statement.{statement}
+use Rattle.joint.proofs.next_joint.Tie as tie
+
+array-read-c : tie.Need-array-read-c
+array-read-c c = search needs
+
+stands-requires : tie.Need-stands-requires
+stands-requires c κs = search needs
+
+returns : tie.Need-returns
+returns c =
+    let s = c .before .before in
+    let a = s .args in
+    let z = s .good .0 .1 .0 .1 in
+    let e = joint-same (a .t1) (a .s) (a .k) (omega arith) (sym (c .before .stands .ensures) ∙ c .if1 .taken) in
+    (s .pre .1 ∙ sym e, s .pre .2)
+
+busy-count-requires : tie.Need-busy-count-requires
+busy-count-requires c κs = search needs
+
+add-result : tie.Need-add-result
+add-result c = search needs
+
+returns-2 : tie.Need-returns-2
+returns-2 c =
+    let s = c .before .before .before in
+    let a = s .args in
+    let z = s .good .0 .1 .0 .1 in
+    let e = joint-more (a .t1) (a .s) (a .k) (omega arith) (sym (c .before .before .stands .ensures) ∙ c .before .if1 .left) in
+    let f = busy-64 (take (a .k + 1) (a .t1)) (a .s) in
+    (omega arith, omega arith)
+
+pub next-joint-spec : {M : Type 1} → statement M
+next-joint-spec =
+    tie.close
+    (tie.spec array-read-c stands-requires returns busy-count-requires add-result returns-2)

@@ -1,0 +1,3 @@
+-- Busy generators on several channels together.
+-- Assumes nothing.
+pub mod Joint

@@ -1,0 +1,3 @@
+-- Laws of lines: what is read is the event whose line it is (Lines), and by the line's count (Sizes).
+pub mod Lines
+pub mod Sizes

@@ -1,0 +1,63 @@
+-- `order::copy` meets its contract. Invariant: the first i bytes are copied.
+-- Assumes nothing.
+use Prim.Native.Nat.{ℕ, _+_, _-_, _*_, _/_, _%_, _≤_, _<_}
+use mathlib.Core.Path.{_≡_, refl, sym, ap, _∙_}
+use mathlib.Core.Bool.{true, false}
+use mathlib.Core.List.{List, _++_}
+use native.Mathlib.Omega.{arith}
+use lib.Dec.{eqb}
+use lib.ListN.{length, take, drop, getD}
+use lib.Seq.{take-all}
+use Rattle.loops.specs.Passes.{upTo}
+use Rattle.loops.proofs.Fill.{fill-next, fill-end, upTo-list}
+use borrow.Author.Needs.{needs}
+use Rattle.order.proofs.copy.Statement.{statement}
+use Rattle.order.proofs.copy.Tie as tie
+
+abbrev Inv-loop : tie.InvT-loop
+Inv-loop order out₀ i₀ out i = (i ≤ 16) × (length out₀ ≡ 16) × (out ≡ upTo (λ j. getD order j 0) i ++ drop i out₀)
+
+abbrev μ-loop : tie.MeasureT-loop
+μ-loop order out₀ i₀ out i = 16 - i
+
+loop-holds : tie.Need-loop-holds Inv-loop μ-loop
+unfolding upTo
+loop-holds c = (omega arith, refl, refl)
+
+shared-slice-read-out : tie.Need-shared-slice-read-out Inv-loop μ-loop
+shared-slice-read-out c = search needs
+
+array-write-out : tie.Need-array-write-out Inv-loop μ-loop
+array-write-out c = search needs
+
+add-i : tie.Need-add-i Inv-loop μ-loop
+add-i c = search needs
+
+loop-less : tie.Need-loop-less Inv-loop μ-loop
+loop-less c = search needs
+
+loop-again : tie.Need-loop-again Inv-loop μ-loop
+loop-again c =
+    let l = c .before .before .loop in
+    let order = c .before .before .before .args .order .now in
+    (omega arith, l .inv .1, fill-next (λ (j : ℕ). getD order j 0) 0 _ (l .out) (l .i) _ (omega arith) (l .inv .2) refl)
+
+returns : tie.Need-returns Inv-loop μ-loop
+returns c =
+    let l = c .before .loop in
+    let order = c .before .before .args .order .now in
+    fill-end (λ (j : ℕ). getD order j 0) _ (l .out) (l .i) 16 (omega arith) (omega arith) (l .inv .2) ∙ upTo-list (λ (j : ℕ). getD order j 0) 0 order 16 (c .before .before .pre) (λ j h. refl)
+
+pub copy-spec : {M : Type 1} → statement M
+copy-spec =
+    tie.close
+    (tie.spec
+    Inv-loop
+    μ-loop
+    loop-holds
+    shared-slice-read-out
+    array-write-out
+    add-i
+    loop-less
+    loop-again
+    returns)

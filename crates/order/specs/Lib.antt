@@ -1,0 +1,3 @@
+-- An order of the sixteen channels.
+-- Assumes nothing.
+pub mod Order
