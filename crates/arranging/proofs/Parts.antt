@@ -263,7 +263,10 @@ parts order log = go (isOrder order)
     go : (t : Bool) → finished (heard (begunBy (if t then record { whole = true; channels = order } else noOrder)) log)
         ≡ (if t then writtenBy order (records fresh (linesOf log)) (told (lookedAt fresh (linesOf log))) (fault fresh (linesOf log)) else refused 16 0)
     go true =
+        let n = lookedAt fresh (linesOf log) in
+        let k : 0 + n ≡ n = omega arith in
         comes order log fresh (replicate 16 0) 0 blank [] holds-blank refl refl (covers-fresh order)
+        ∙ ap (λ (x : ℕ). outcome order (replicate 16 0) (records fresh (linesOf log)) x (fault fresh (linesOf log))) k
         ∙ outcome-fresh order (records fresh (linesOf log)) (lookedAt fresh (linesOf log)) (fault fresh (linesOf log))
     go false = stays log (song fresh (replicate 16 0) (replicate 16 0) 0 16) blank refl
 

@@ -37,7 +37,8 @@ use Rattle.silence.specs.declared.Leaving.the-variants.{One}
 use Rattle.silence.specs.Silence.{silenced}
 use Rattle.reports.specs.Reports.{reported}
 use Rattle.device.specs.declared.Device.{Device}
-use Rattle.device.specs.Device.{started, judgedReply, mipTaken, kindReply, exclusive, heard, byteTaken}
+use Rattle.exclusive.specs.Exclusive.{judgedReply, mipTaken, kindReply, exclusive}
+use Rattle.device.specs.Device.{started, heard, byteTaken}
 use Rattle.events.specs.declared.Event.{Event}
 use Rattle.events.specs.declared.Event.the-variants.{Byte, Report}
 use Rattle.events.specs.Events.{reportTaken, taken}

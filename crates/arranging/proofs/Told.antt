@@ -19,7 +19,7 @@ module _ (n : ℕ) where
       go false e = let k = ltb-false n 18446744073709551615 e in omega arith
 
   told-large : 18446744073709551615 ≤ n → told n ≡ 18446744073709551615
-  told-large h = rw (le-ltb 18446744073709551615 n h)
+  told-large h = rw (le-ltb n 18446744073709551615 h)
 
 pub told-next : (n : ℕ) → n < 18446744073709551615 → n + 1 ≡ counted n
 told-next n h = sym (told-small (n + 1) (omega arith))

@@ -275,7 +275,7 @@ fn begin_with(o: Order) -> Run
         order: order,
         most: [0; 16],
         lines: 0,
-        number: if o.whole { 0 } else { 16 },
+        number: loops::if_else(o.whole, 0, 16),
     };
     let l = Line::new();
     Run { song: s, line: l }

@@ -22,7 +22,7 @@ compose-requires c κs = search needs
 
 returns-2 : tie.Need-returns-2
 unfolding endedBy
-returns-2 c = simp (eq-eqb _ _ (c .before .if1 .left), c .compose .ensures)
+returns-2 c = simp (eq-eqb _ _ (c .before .before .before .if1 .left), c .compose .ensures)
 
 pub end-song-spec : {M : Type 1} → statement M
 end-song-spec = tie.close (tie.spec one-more-requires refuse-requires returns compose-requires returns-2)

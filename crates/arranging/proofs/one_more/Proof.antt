@@ -12,10 +12,10 @@ add-result : tie.Need-add-result
 add-result c = search needs
 
 returns : tie.Need-returns
-returns c = told-next _ (c .before .if1 .taken)
+returns c = told-next _ (c .if1 .taken)
 
 returns-2 : tie.Need-returns-2
-returns-2 c = told-last _ (c .if1 .left)
+returns-2 c = let f = c .before .fits in told-last _ (c .if1 .left) (omega arith)
 
 pub one-more-spec : {M : Type 1} → statement M
 one-more-spec = tie.close (tie.spec add-result returns returns-2)

@@ -25,15 +25,18 @@ returns c =
     let a = c .before in
     simp (rw (a .before .before .ends-mip .ensures, a .before .loses-note .ensures, a .before .before .before .apply .ensures) at (a .if1 .taken), c .stop .ensures)
 
+one-more-requires : tie.Need-one-more-requires
+one-more-requires c κs = search needs
+
 is-quiet-requires : tie.Need-is-quiet-requires
 is-quiet-requires c κs = search needs
 
 returns-2 : tie.Need-returns-2
 unfolding eventPlayed spoils
 returns-2 c =
-    let a = c .before .before .before .before .before in
+    let a = c .before .before .before .before .before .before in
     let e = a .before .before .before .apply .ensures in
-    simp (rw (a .before .before .ends-mip .ensures, a .before .loses-note .ensures, e) at (a .if1 .left), rw e at (sym (c .before .is-quiet .ensures) ∙ c .if2 .taken), e)
+    simp (rw (a .before .before .ends-mip .ensures, a .before .loses-note .ensures, e) at (a .if1 .left), rw e at (sym (c .before .is-quiet .ensures) ∙ c .if2 .taken), c .before .before .one-more .ensures, e)
 
 raise-requires : tie.Need-raise-requires
 raise-requires c κs = search needs
@@ -42,9 +45,9 @@ returns-3 : tie.Need-returns-3
 unfolding eventPlayed spoils
 returns-3 c =
     let q = c .before .before .before in
-    let a = q .before .before .before .before .before in
+    let a = q .before .before .before .before .before .before in
     let e = a .before .before .before .apply .ensures in
-    simp (rw (a .before .before .ends-mip .ensures, a .before .loses-note .ensures, e) at (a .if1 .left), rw e at (sym (q .before .is-quiet .ensures) ∙ q .if2 .left), c .raise .ensures, e)
+    simp (rw (a .before .before .ends-mip .ensures, a .before .loses-note .ensures, e) at (a .if1 .left), rw e at (sym (q .before .is-quiet .ensures) ∙ q .if2 .left), c .raise .ensures, q .before .before .one-more .ensures, e)
 
 pub play-event-spec : {M : Type 1} → statement M
 play-event-spec =
@@ -55,6 +58,7 @@ play-event-spec =
     loses-note-requires
     stop-requires
     returns
+    one-more-requires
     is-quiet-requires
     returns-2
     raise-requires

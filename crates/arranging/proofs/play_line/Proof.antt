@@ -22,7 +22,7 @@ play-meaning-requires c κs = search needs
 returns-2 : tie.Need-returns-2
 unfolding linePlayed
 returns-2 c =
-    let a = c .before .before .before .args in
+    let a = c .before .before .before .before .args in
     simp (eq-eqb _ _ (c .before .before .if1 .left)) (c .play-meaning .ensures ∙ ap (playedBy (a .s)) (c .before .read .ensures) ∙ by-meaning (a .s) (eventOf (textOf (a .l))))
 
 pub play-line-spec : {M : Type 1} → statement M
