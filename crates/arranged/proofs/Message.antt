@@ -42,15 +42,15 @@ wrote order log b o = if b then writtenBy order (records fresh (linesOf log)) (t
 fault-above : (d : Device) (ls : List (List ℕ)) (n : ℕ) → fault d ls ≡ some n → n ≡ 0 → ⊥
 unfolding fault atLine
 fault-above d [] n h k = absurd (let z : _≡_ {A = ℕ} 0 1 = cc in omega arith)
-fault-above d (l ∷ ls) n h k = at (eventOf l) h
+fault-above d (l ∷ ls) n h k = at (eventOf l) (λ r q. fault-above r ls n q k) h
   where
-    at : (o : Option Event) → atLine d (λ r. fault r ls) o ≡ some n → ⊥
-    at none h = let e : 15 ≡ n = cc in omega arith
-    at (some e) h = go (spoils d e) h
+    at : (o : Option Event) → ((r : Device) → fault r ls ≡ some n → ⊥) → atLine d (λ r. fault r ls) o ≡ some n → ⊥
+    at none ih h = let e : _≡_ {A = ℕ} 15 n = cc in omega arith
+    at (some e) ih h = go (spoils d e) h
       where
         go : (t : Bool) → (if t then some 17 else fault (taken d e .device) ls) ≡ some n → ⊥
-        go true h = let q : 17 ≡ n = cc in omega arith
-        go false h = fault-above (taken d e .device) ls n h k
+        go true h = let q : _≡_ {A = ℕ} 17 n = cc in omega arith
+        go false h = ih (taken d e .device) h
 
 whole : (order log : List ℕ) → message order log .number ≡ 0 → Whole′ order log
 unfolding message
