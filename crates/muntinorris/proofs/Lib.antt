@@ -2,4 +2,4 @@
 pub mod Copied
 pub mod Numbering
 pub mod PassedOn
-pub mod CopiedChannel
+pub mod CopiedAlone
