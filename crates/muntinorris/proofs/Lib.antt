@@ -3,3 +3,4 @@ pub mod Copied
 pub mod Numbering
 pub mod PassedOn
 pub mod CopiedAlone
+pub mod Kept
