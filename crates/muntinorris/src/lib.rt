@@ -109,9 +109,9 @@ pub extern "C" fn muntinorris_write_song(polyphony: u8, n: usize, song: &mut [u8
 pub extern "C" fn muntinorris_log_begin(log: &mut Run, order: &[u8]) -> u8
     ensures { λ r. ⌜ (r ≡ begun (now (order .entry)) .song .number) × (now (log .exit) ≡ begun (now (order .entry))) ⌝ }
 {
-    let r = arranging::begin(order);
-    *log = r;
-    r.song.number
+    let fresh = arranging::begin(order);
+    *log = fresh;
+    fresh.song.number
 }
 
 // A part of the log. The number that has fallen so far, or 0.
@@ -119,9 +119,9 @@ pub extern "C" fn muntinorris_log_begin(log: &mut Run, order: &[u8]) -> u8
 pub extern "C" fn muntinorris_log_part(log: &mut Run, part: &[u8]) -> u8
     ensures { λ r. ⌜ (r ≡ heard (now (log .entry)) (now (part .entry)) .song .number) × (now (log .exit) ≡ heard (now (log .entry)) (now (part .entry))) ⌝ }
 {
-    let r = arranging::take(*log, part);
-    *log = r;
-    r.song.number
+    let next = arranging::take(*log, part);
+    *log = next;
+    next.song.number
 }
 
 // The message of the log as far as it was given.
