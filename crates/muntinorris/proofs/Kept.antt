@@ -110,7 +110,7 @@ module _ {K : Type 0} {M : Type 1} {𝓤 : URA M} {H : Heap 𝓤} {A : Atoms �
       -- [the record's cell; the open borrow; obs; auth; _3; _1; room for _0; …]
       assigns t (of-opd t (load t (from t (stop t)) (look t 4 refl))) (from t (hop t (look t 5 refl) (stop t))) (store-raw t 0 refl (LL.lawful R.the-type R′.the-laws 𝓤 H A W .typed r _ (LL.owes R.the-type R′.the-laws r whole-is) .0)) $
       owned t R.the-row (Is R.the-row) (LL.makes R.the-type R′.the-plain 𝓤 H A) r (run-val r ∷ []) (LL.owes R.the-type R′.the-laws r whole-is) $ move t (1 ∷ 0 ∷ []) $ closes t tt R.the-row r (run-val r ∷ []) b o $
-      assigns t (of-opd t (load t (from t (fld t refl (fld t refl (stop t)))) (look-in t 3 (sub t 4 refl (sub t 0 refl (whole t)))))) (from t (stop t)) (init t 5 refl (uint-lawful 𝓤 H A W w8 .typed (r .song .number) _ (song-is .1 .1 .1 .1 .0) .0)) $ s))
+      assigns t (of-opd t (load t (from t (fld t {τ = S′.mir} {d = 0} refl (fld t {τ = tyInt w8} {d = 552} refl (stop t)))) (look-in t 3 (sub t 4 {τ = tyInt w8} {d = 552} refl (sub t 0 {τ = S′.mir} {d = 0} refl (whole t)))))) (from t (stop t)) (init t 5 refl (uint-lawful 𝓤 H A W w8 .typed (r .song .number) _ (song-is .1 .1 .1 .1 .0) .0)) $ s))
 
 -- ---- what is handed back, and the step from the walk to the contract
 
