@@ -421,9 +421,9 @@ static int is_logged(unsigned char pattern)
     for (i = 0; i < MARGIN; i++)
         if (log_memory.bytes[i] != pattern || log_memory.bytes[MARGIN + sizeof(struct muntinorris_log) + i] != pattern)
             return 0;
-    return memcmp(&lent->song.device, &logged.song.device, sizeof lent->song.device) == 0 && memcmp(lent->song.order, logged.song.order, 16) == 0 &&
-           memcmp(lent->song.most, logged.song.most, 16) == 0 && lent->song.lines == logged.song.lines && lent->song.number == logged.song.number &&
-           lent->line.count == logged.line.count && memcmp(lent->line.bytes, logged.line.bytes, 7) == 0;
+    return memcmp(&lent->song.device, &logged.song.device, sizeof lent->song.device) == 0 && memcmp(lent->song.order, logged.song.order, sizeof logged.song.order) == 0 &&
+           memcmp(lent->song.most, logged.song.most, sizeof logged.song.most) == 0 && lent->song.lines == logged.song.lines && lent->song.number == logged.song.number &&
+           lent->line.count == logged.line.count && memcmp(lent->line.bytes, logged.line.bytes, sizeof logged.line.bytes) == 0;
 }
 
 static void line_is(const char *text)
