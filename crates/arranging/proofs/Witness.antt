@@ -46,3 +46,33 @@ log (e ∷ l) = lineOf e ++ log l
 pub in-turn : message one-to-sixteen (log (Byte 0x90 ∷ Byte 60 ∷ Byte 64 ∷ Report 0 ∷ Byte 0x91 ∷ Byte 60 ∷ Byte 64 ∷ [])) ≡ whole one-to-sixteen (replicate 16 1) 7
 unfolding upTo total filterBy firstOf count padded begun stored oneDataByte completed dataByte opened ended statusByte split decode tableOf startTable listed sharesFrom lookup shareOf isMip isSystemOn kindOf pairs faulty judged groupOf excludes agesOf newest assigned silent changes stateAfter changed isAmong leaves silenced lowestIdle wanted oldest busyCount overShare stealFrom cleared step5 choice noteOn fresh isRhythm masked playNoteOn played started newTable mipTaken exclusive heard byteTaken taken reportTaken reported decimal lineOf loggable eventOf linesFrom each isOrder busyOn endsMip losesNote spoils atLine fault behindLine lookedAt afterLine records largest values pairBytes mipMessage message
 in-turn = refl
+
+-- a MIP message for ID 0, without pairs, up to its last byte
+abbrev mip : Event → List ℕ
+mip e = log (Byte 0xF0 ∷ Byte 0x7F ∷ Byte 0x00 ∷ Byte 0x0B ∷ Byte 0x01 ∷ e ∷ [])
+
+-- a MIP message for ID 0 that a status cuts has not ended; one that its F7 ends has, and without pairs too; then a line of another form is too late, and before it it isn't
+pub cut : message one-to-sixteen (mip (Byte 0x90)) ≡ whole one-to-sixteen (replicate 16 0) 6
+unfolding upTo firstOf count begun stored oneDataByte dataByte opened ended statusByte split isMip isSystemOn kindOf silent started fresh heard byteTaken taken decimal lineOf loggable eventOf linesFrom each isOrder total busyOn endsMip losesNote spoils atLine fault behindLine lookedAt afterLine records largest values message
+cut = refl
+
+pub ended-17 : message one-to-sixteen (mip (Byte 0xF7)) ≡ refused 17 6
+unfolding upTo firstOf count begun stored oneDataByte dataByte opened ended statusByte split isMip isSystemOn kindOf silent started fresh heard byteTaken taken decimal lineOf loggable eventOf linesFrom each isOrder total busyOn endsMip losesNote spoils atLine fault behindLine lookedAt afterLine records largest values message
+ended-17 = refl
+
+pub earlier-15 : message one-to-sixteen (0x0A ∷ mip (Byte 0xF7)) ≡ refused 15 1
+unfolding upTo firstOf count begun stored oneDataByte dataByte opened ended statusByte split isMip isSystemOn kindOf silent started fresh heard byteTaken taken decimal lineOf loggable eventOf linesFrom each isOrder total busyOn endsMip losesNote spoils atLine fault behindLine lookedAt afterLine records largest values message
+earlier-15 = refl
+
+-- a log that is faulty, and no order
+pub order-first : message [] (0x0A ∷ []) ≡ refused 16 0
+unfolding count each isOrder message
+order-first = refl
+
+-- beside a number, and in front of the pairs
+pub zeros : (refused 15 1 .bytes ≡ replicate 38 0) × (refused 15 1 .number ≡ 15) × (refused 15 1 .line ≡ 1)
+zeros = (refl, refl, refl)
+
+pub to-all-devices : mipMessage [] ≡ 0xF0 ∷ 0x7F ∷ 0x7F ∷ 0x0B ∷ 0x01 ∷ 0xF7 ∷ []
+unfolding pairBytes mipMessage
+to-all-devices = refl
