@@ -256,7 +256,7 @@ impl Readers {
     }
 
     /// Plays a message into a device of both sides.
-    fn take(&self, message: &[u8], random: &mut Random) -> Result<(), String> {
+    pub fn take(&self, message: &[u8], random: &mut Random) -> Result<(), String> {
         let (mut a, mut b) = self.0[random.below(self.0.len())].clone();
         let mut last = Answer::None;
         for &byte in message {

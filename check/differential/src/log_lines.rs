@@ -3,7 +3,7 @@
 //! A device plays along, so that the musician knows which keys to let go and which generators to report. What a log must
 //! yield is not known here; both sides of the comparison say that.
 
-use crate::drums::DRUM_CHANNEL;
+use crate::drums::{excludes, DRUM_CHANNEL};
 use crate::lists::{self, pick_weighted};
 use paper::{Device, Event, GeneratorView, State};
 use random::Random;
@@ -12,6 +12,7 @@ use random::Random;
 #[derive(Clone, Copy, Debug)]
 enum Phrase {
     Chord,
+    KeyAgain,
     KeyUp,
     Pedal,
     Controller,
@@ -19,6 +20,7 @@ enum Phrase {
     ReportOfBusy,
     ReportOfAny,
     SystemOn,
+    NearlySystemOn,
     RealTime,
     StrayData,
     OthersMip,
@@ -29,13 +31,15 @@ enum Phrase {
 
 const MUSIC: &[(usize, Phrase)] = &[
     (40, Phrase::Chord),
+    (3, Phrase::KeyAgain),
     (30, Phrase::KeyUp),
-    (6, Phrase::Pedal),
+    (9, Phrase::Pedal),
     (4, Phrase::Controller),
     (3, Phrase::ProgramOrBend),
     (4, Phrase::ReportOfBusy),
     (8, Phrase::ReportOfAny),
     (1, Phrase::SystemOn),
+    (1, Phrase::NearlySystemOn),
     (2, Phrase::RealTime),
     (2, Phrase::StrayData),
     (2, Phrase::OthersMip),
@@ -82,11 +86,16 @@ impl Musician<'_> {
         }
     }
 
+    /// Music of at least so many lines. Where these are many, it begins full at times.
     pub fn phrases(&mut self, lines: usize) {
         let up_to = self.lines + lines;
+        if lines >= 100 && self.most >= 60 && self.random.one_in(3) {
+            self.fill(self.most);
+        }
         while self.lines < up_to {
             match pick_weighted(self.random, MUSIC) {
                 Phrase::Chord => self.chord(),
+                Phrase::KeyAgain => self.key_again(),
                 Phrase::KeyUp => self.key_up(),
                 Phrase::Pedal => self.pedal(),
                 Phrase::Controller => self.controller(),
@@ -94,6 +103,7 @@ impl Musician<'_> {
                 Phrase::ReportOfBusy => self.report_of_busy(),
                 Phrase::ReportOfAny => self.report_of_any(),
                 Phrase::SystemOn => self.system_on(),
+                Phrase::NearlySystemOn => self.nearly_system_on(),
                 Phrase::RealTime => self.byte(0xF8),
                 Phrase::StrayData => self.stray_data(),
                 Phrase::OthersMip => self.others_mip(),
@@ -194,6 +204,18 @@ impl Musician<'_> {
         }
     }
 
+    /// A key that is down or on the pedal once more, or on channel 10 another one of its group: there is room for it always.
+    fn key_again(&mut self) {
+        let busy = self.busy();
+        let Some(&(_, view)) = busy.get(self.random.below(busy.len().max(1))) else {
+            return;
+        };
+        let channel = view.channel - 1;
+        let others = (0..128).find(|&key| excludes(channel, key, view.key));
+        let key = others.filter(|_| self.random.one_in(2)).unwrap_or(view.key);
+        self.message(0x90 | channel, &[key, 64]);
+    }
+
     fn key_up(&mut self) {
         let busy = self.busy();
         if let Some(&(_, view)) = busy.get(self.random.below(busy.len().max(1))) {
@@ -239,6 +261,18 @@ impl Musician<'_> {
     fn system_on(&mut self) {
         let d = self.random.pick(&[0x7F, 0]);
         self.sysex(&[0x7E, d, 0x09, 0x01]);
+    }
+
+    /// System Off, for another ID, or with a byte more or less.
+    fn nearly_system_on(&mut self) {
+        let mut bytes = vec![0x7E, self.random.pick(&[0x7F, 0]), 0x09, 0x01];
+        match self.random.below(4) {
+            0 => bytes[3] = 0x02,
+            1 => bytes[1] = self.random.pick(&[1, 64, 126]),
+            2 => bytes.push(0),
+            _ => bytes.truncate(self.random.below(4)),
+        }
+        self.sysex(&bytes);
     }
 
     fn stray_data(&mut self) {
@@ -372,19 +406,21 @@ impl Musician<'_> {
         pairs
     }
 
-    /// Takes every generator, and then one more.
-    fn one_note_more(&mut self) {
-        (self.most, self.keys) = (64, 128);
-        for key in 0..128 {
-            if self.busy().len() == 64 {
+    /// Plays notes until so many are held.
+    fn fill(&mut self, most: usize) {
+        // No key of an exclusive group, which would end another drum.
+        for key in (0..42).chain(82..128) {
+            if self.busy().len() >= most {
                 break;
             }
-            // No key of an exclusive group, which would end another drum.
-            if !(42..=81).contains(&key) {
-                let channel = self.channel();
-                self.message(0x90 | channel, &[key, 64]);
-            }
+            let channel = self.channel();
+            self.message(0x90 | channel, &[key, 64]);
         }
+    }
+
+    /// Takes every generator, and then one more.
+    fn one_note_more(&mut self) {
+        self.fill(64);
         let channel = self.random.below(16) as u8;
         self.message(0x90 | channel, &[60, 64]);
     }

@@ -23,8 +23,9 @@ pub enum Kind {
     List,
     /// Bytes of the lines' letters, and any bytes.
     Noise,
-    /// So much music that it has thousands of lines.
+    /// So much music that it has thousands of lines, or so much that a number of 16 bits does not reach.
     Long,
+    Longest,
     /// A single line, every one that may be taken for a right one.
     OneLine,
     /// Orders, on both sides of every limit.
@@ -43,7 +44,9 @@ const KINDS: &[(usize, Kind)] = &[
     (4, Kind::Noise),
 ];
 const LONG_EVERY: u64 = 400;
-/// A long line too, longer than 16 bits can count.
+/// One of four long logs has more bytes than 16 bits can count, in one part.
+const LONGEST_EVERY: u64 = 1600;
+/// A line that is longer than that.
 const LONG_LINE_EVERY: u64 = 1900;
 
 #[derive(Clone, Debug)]
@@ -71,12 +74,13 @@ const BEHIND: [u64; 7] = [
 impl Log {
     /// The random log with this number in its run, counted from 1.
     pub fn random(random: &mut Random, number: u64) -> Log {
-        let kind = match number % LONG_EVERY {
-            0 => Kind::Long,
+        let kind = match (number % LONGEST_EVERY, number % LONG_EVERY) {
+            (LONG_EVERY, _) => Kind::Longest,
+            (_, 0) => Kind::Long,
             _ => pick_weighted(random, KINDS),
         };
         let mut bytes = lines_of(random, kind);
-        if number % LONG_LINE_EVERY == 0 {
+        if number % LONG_LINE_EVERY == LONG_EVERY + 1 {
             let at = random.below(bytes.len() + 1);
             bytes.splice(at..at, [b'0'; 70_000]);
         }
@@ -86,10 +90,16 @@ impl Log {
         };
         Log {
             kind,
-            order: some_order(random),
-            parts: parts(random, &bytes),
+            order: match kind {
+                Kind::Longest => by_number(),
+                _ => some_order(random),
+            },
+            parts: match kind {
+                Kind::Longest => vec![bytes.len()],
+                _ => parts(random, &bytes),
+            },
             bytes,
-            behind,
+            behind: if kind == Kind::Longest { 0 } else { behind },
         }
     }
 
@@ -129,7 +139,8 @@ fn lines_of(random: &mut Random, kind: Kind) -> Vec<u8> {
             let seldom = random.pick(&[1, 1, 10]);
             with_carriage_returns(random, &music, seldom)
         }
-        Kind::Long => music(random, 6000),
+        Kind::Long => music(random, 2000),
+        Kind::Longest => music(random, 15_000),
         Kind::Spoilt => spoilt(random, length),
         Kind::Music | Kind::OneLine | Kind::Order => music(random, length),
     }

@@ -6,6 +6,7 @@
 //! and every answer was reached.
 
 mod arranging;
+mod arranging_self_test;
 mod arranging_sides;
 mod book;
 mod channel_gains;
@@ -24,6 +25,7 @@ mod most_thefts;
 mod pitches;
 mod plain;
 mod plain_gains;
+mod plain_log;
 mod plain_pitch;
 mod plain_song;
 mod record;
