@@ -24,6 +24,9 @@ pub fn run(seed: u64) -> Vec<String> {
         }
     }
     complaints.extend(wrong_messages(&readers, seed));
+    if complaints.is_empty() {
+        println!("{} mistakes about logs: each found", MISTAKES.len());
+    }
     complaints
 }
 

@@ -427,12 +427,12 @@ impl Musician<'_> {
 }
 
 /// Lines that are none, without their ends.
+#[rustfmt::skip]
 const WRONG_LINES: [&[u8]; 48] = [
     b"", b"b", b"e", b",", b"b,", b"e,", b"144", b"b144", b"e5", b"b,256", b"b,257", b"b,260",
-    b"b,299", b"b,300", b"b,400", b"b,511", b"b,512", b"b,999", b"b,1000", b"b,1440", b"e,64",
-    b"e,65", b"e,99", b"e,127", b"e,128", b"e,255", b"e,256", b"b,00", b"b,01", b"b,090",
-    b"b,0144", b"e,00", b"e,07", b"e,063", b"b,-1", b"b,+1", b"b,-0", b"b, 1", b" b,1", b"b,1 ",
-    b"b ,1", b"B,144", b"E,5", b"b,144\r", b"b;144", b"c,144", b"b,0x90", b"b,144,",
+    b"b,299", b"b,300", b"b,400", b"b,511", b"b,512", b"b,999", b"b,1000", b"b,1440", b"e,64", b"e,65", b"e,99", b"e,127",
+    b"e,128", b"e,255", b"e,256", b"b,00", b"b,01", b"b,090", b"b,0144", b"e,00", b"e,07", b"e,063", b"b,-1", b"b,+1",
+    b"b,-0", b"b, 1", b" b,1", b"b,1 ", b"b ,1", b"B,144", b"E,5", b"b,144\r", b"b;144", b"c,144", b"b,0x90", b"b,144,",
 ];
 
 /// A line of another form, mostly; with its end.

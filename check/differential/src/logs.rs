@@ -285,48 +285,9 @@ const ORDERED: [&[u8]; 4] = [
 ];
 
 fn orders() -> impl Iterator<Item = Vec<u8>> {
-    let cut = (0..=20).flat_map(|length| {
-        let rising: Vec<u8> = (1..=20).collect();
-        let again: Vec<u8> = by_number().into_iter().cycle().take(length).collect();
-        let wire: Vec<u8> = (0..20).collect();
-        [
-            rising[..length].to_vec(),
-            again,
-            wire[..length].to_vec(),
-            vec![7; length],
-        ]
-    });
     let long = [32, 255, 256, 272, 65_536, 65_552].map(|length| {
         let again = by_number().into_iter().cycle();
         again.take(length).collect()
-    });
-    let other = (0..16).flat_map(|at| {
-        let channel = at as u8 + 1;
-        let others = [
-            0,
-            17,
-            18,
-            31,
-            127,
-            128,
-            255,
-            channel + 16,
-            channel + 32,
-            channel + 128,
-            17 - channel,
-        ];
-        let with = move |other| {
-            let mut order = by_number();
-            order[at] = other;
-            order
-        };
-        others.into_iter().chain(1..=16).map(with)
-    });
-    let balanced = [(1, 2, 15, 14), (0, 15, 3, 12)].map(|(up, down, up_too, down_too)| {
-        let mut order = by_number();
-        (order[up], order[down]) = (order[up] + 1, order[down] - 1);
-        (order[up_too], order[down_too]) = (order[up_too] - 1, order[down_too] + 1);
-        order
     });
     let turned = (0..16).map(|by| {
         let mut order = by_number();
@@ -334,7 +295,39 @@ fn orders() -> impl Iterator<Item = Vec<u8>> {
         order.reverse();
         order
     });
-    cut.chain(long).chain(other).chain(balanced).chain(turned)
+    let cut = (0..=20).flat_map(orders_of);
+    let other = (0..16).flat_map(with_another);
+    cut.chain(long).chain(other).chain(balanced()).chain(turned)
+}
+
+/// Orders of up to 20 channels: rising ones, those that begin anew, the wire's numbers, and one channel again and again.
+fn orders_of(length: usize) -> [Vec<u8>; 4] {
+    let up_to = |from: u8| (from..).take(length).collect();
+    let again = by_number().into_iter().cycle().take(length).collect();
+    [up_to(1), again, up_to(0), vec![7; length]]
+}
+
+/// All channels but for another number in one place.
+fn with_another(at: usize) -> impl Iterator<Item = Vec<u8>> {
+    let channel = at as u8 + 1;
+    let beyond = [0, 17, 18, 31, 127, 128, 255];
+    let less_bits = [channel + 16, channel + 32, channel + 128];
+    let others = beyond.into_iter().chain(less_bits).chain(1..=16);
+    others.map(move |other| {
+        let mut order = by_number();
+        order[at] = other;
+        order
+    })
+}
+
+/// Orders that are wrong in four places and have the right sum.
+fn balanced() -> [Vec<u8>; 2] {
+    [(1, 2, 15, 14), (0, 15, 3, 12)].map(|(up, down, up_too, down_too)| {
+        let mut order = by_number();
+        (order[up], order[down]) = (order[up] + 1, order[down] - 1);
+        (order[up_too], order[down_too]) = (order[up_too] - 1, order[down_too] + 1);
+        order
+    })
 }
 
 /// Lines that are right or nearly so, without their ends.

@@ -126,11 +126,8 @@ fn differential(options: &Options) -> Result<(), String> {
         ));
     }
     let seconds = clock.elapsed().as_secs_f64();
-    let arranged = logs(options)?;
     let tally = &mut reached.tally;
-    for (number, count) in arranging::NUMBERS.into_iter().zip(arranged.numbers) {
-        tally.refused(number, count);
-    }
+    let arranged = logs(options, tally)?;
     tally.refused(Number::PitchOutOfRange, pitches(options)?);
     tally.refused(
         Number::LevelOutOfRange,
@@ -156,7 +153,7 @@ fn differential(options: &Options) -> Result<(), String> {
 }
 
 /// Logs of songs, each given to both sides whole and in parts.
-fn logs(options: &Options) -> Result<arranging::Reached, String> {
+fn logs(options: &Options, tally: &mut Tally) -> Result<arranging::Reached, String> {
     let clock = Instant::now();
     let readers = Readers::new(options.seed);
     let library = LentLog::new([library::RUBBISH; proved::LOG_BYTES]);
@@ -174,6 +171,9 @@ fn logs(options: &Options) -> Result<arranging::Reached, String> {
         clock.elapsed().as_secs_f64()
     );
     println!("logs spoilt by: {}", reached.spoilers());
+    for (number, count) in arranging::NUMBERS.into_iter().zip(reached.numbers) {
+        tally.refused(number, count);
+    }
     Ok(reached)
 }
 

@@ -449,7 +449,6 @@ impl PlainLog {
     /// A line without its end, with what is dropped of it by a mistake.
     fn cleaned(&self, line: &[u8]) -> Vec<u8> {
         let mut line = line.to_vec();
-        let is_digits = |bytes: &[u8]| bytes.iter().all(u8::is_ascii_digit);
         match self.mistake {
             Some(Mistake::CarriageReturnAccepted) if line.ends_with(b"\r") => {
                 line.truncate(line.len() - 1)
@@ -469,24 +468,30 @@ impl PlainLog {
             Some(Mistake::NoNumberTakenAs0) if line.len() == 2 => line.push(b'0'),
             Some(Mistake::LetterAloneTakenAs0) if line.len() == 1 => line.extend(b",0"),
             Some(Mistake::SemicolonAccepted) if line.get(1) == Some(&b';') => line[1] = b',',
-            Some(Mistake::CommaMissingAccepted) if line.len() > 1 && is_digits(&line[1..]) => {
-                line.insert(1, b',')
+            _ => self.complete(&mut line),
+        }
+        line
+    }
+
+    /// Puts in what a line lacks, or leaves off what it has too much of.
+    fn complete(&self, line: &mut Vec<u8>) {
+        let is_digits = |bytes: &[u8]| !bytes.is_empty() && bytes.iter().all(u8::is_ascii_digit);
+        match self.mistake {
+            Some(Mistake::CommaMissingAccepted) if line.get(1..).is_some_and(is_digits) => {
+                line.insert(1, b',');
             }
             Some(Mistake::AnyLetterAByte) if line.first().is_some_and(|&byte| byte != b'e') => {
-                line[0] = b'b'
+                line[0] = b'b';
             }
-            Some(Mistake::NumberAloneAByte) if !line.is_empty() && is_digits(&line) => {
-                drop(line.splice(0..0, *b"b,"))
+            Some(Mistake::NumberAloneAByte) if is_digits(line) => {
+                line.splice(0..0, *b"b,");
             }
             Some(Mistake::LineCutToFiveBytes) => line.truncate(5),
-            Some(Mistake::DigitsBehindTheThirdIgnored)
-                if line.len() >= 6 && is_digits(&line[2..5]) =>
-            {
-                line.truncate(5)
+            Some(Mistake::DigitsBehindTheThirdIgnored) if line.get(2..5).is_some_and(is_digits) => {
+                line.truncate(5);
             }
             _ => {}
         }
-        line
     }
 
     /// The letter and the number of a line.
@@ -509,31 +514,7 @@ impl PlainLog {
     }
 
     fn number(&self, letter: u8, digits: &[u8]) -> Option<u128> {
-        let mut digits = digits.to_vec();
-        let digit = |byte: &u8| match self.mistake {
-            Some(Mistake::ColonTakenAsTen) => (b'0'..=b':').contains(byte),
-            Some(Mistake::SlashTakenAsMinusOne) => (b'/'..=b'9').contains(byte),
-            _ => byte.is_ascii_digit(),
-        };
-        match self.mistake {
-            Some(Mistake::RestOfTheLineIgnored) => {
-                digits.truncate(
-                    digits
-                        .iter()
-                        .position(|byte| !digit(byte))
-                        .unwrap_or(digits.len()),
-                );
-            }
-            Some(Mistake::OtherBytesInTheNumberDropped) => digits.retain(digit),
-            Some(Mistake::FormOfReportsNotLookedAt) if letter == b'e' => {
-                digits.retain(digit);
-                digits.truncate(2);
-            }
-            _ => {}
-        }
-        if digits.is_empty() || !digits.iter().all(digit) || digits.len() > 30 {
-            return None;
-        }
+        let digits = self.digits(letter, digits)?;
         let zeros = digits.iter().take_while(|&&byte| byte == b'0').count();
         let leading = zeros.min(digits.len() - 1);
         let accepted = match self.mistake {
@@ -545,10 +526,33 @@ impl PlainLog {
             _ => leading == 0,
         };
         let value = |byte: &u8| i128::from(*byte) - i128::from(b'0');
-        let number = digits
-            .iter()
-            .fold(0, |number, byte| 10 * number + value(byte));
+        let number = digits.iter();
+        let number = number.fold(0, |number, byte| 10 * number + value(byte));
         accepted.then(|| self.in_bits(number.max(0) as u128))
+    }
+
+    /// The digits of a line's number, if they are all digits.
+    fn digits(&self, letter: u8, digits: &[u8]) -> Option<Vec<u8>> {
+        let mut digits = digits.to_vec();
+        let digit = |byte: &u8| match self.mistake {
+            Some(Mistake::ColonTakenAsTen) => (b'0'..=b':').contains(byte),
+            Some(Mistake::SlashTakenAsMinusOne) => (b'/'..=b'9').contains(byte),
+            _ => byte.is_ascii_digit(),
+        };
+        match self.mistake {
+            Some(Mistake::RestOfTheLineIgnored) => {
+                let rest = digits.iter().position(|byte| !digit(byte));
+                digits.truncate(rest.unwrap_or(digits.len()));
+            }
+            Some(Mistake::OtherBytesInTheNumberDropped) => digits.retain(digit),
+            Some(Mistake::FormOfReportsNotLookedAt) if letter == b'e' => {
+                digits.retain(digit);
+                digits.truncate(2);
+            }
+            _ => {}
+        }
+        let right = !digits.is_empty() && digits.len() <= 30 && digits.iter().all(digit);
+        right.then_some(digits)
     }
 
     fn in_bits(&self, number: u128) -> u128 {
@@ -890,7 +894,7 @@ impl PlainLog {
             Mistake::MipTooLongPassedOver => mip && number != Some(Number::MipTooLong),
             Mistake::MipOfMoreThan37BytesPassedOver => mip && !long,
             Mistake::MipWithoutPairsPassedOver => mip && open.len() > 4,
-            Mistake::MipOddPassedOver => mip && (long || open.len() % 2 == 0),
+            Mistake::MipOddPassedOver => mip && (long || open.len() % 2 != 1),
             Mistake::MipWithAChannelAbove15PassedOver => {
                 mip && number != Some(Number::MipChannelAbove15)
             }
@@ -1053,26 +1057,8 @@ impl PlainLog {
 /// What is answered.
 impl PlainLog {
     fn message(&self) -> [u8; 38] {
-        let mut pairs: Vec<(u8, u8)> = self.order.into_iter().zip(self.most).collect();
-        match self.mistake {
-            Some(Mistake::MessageByNumber) => pairs.sort_unstable(),
-            Some(Mistake::MessageBackward) => pairs.reverse(),
-            _ => {}
-        }
         let mut message = vec![0xF0, 0x7F, 0x7F, 0x0B, 0x01];
-        message.extend(
-            pairs
-                .iter()
-                .flat_map(|&(channel, value)| match self.mistake {
-                    Some(Mistake::ChannelNotLowered) => [channel, value],
-                    Some(Mistake::ChannelsFromTwo) => [channel.wrapping_sub(2), value],
-                    Some(Mistake::PairsSwapped) => [value, channel.wrapping_sub(1)],
-                    Some(Mistake::ValuesInMessageOneLess) => {
-                        [channel.wrapping_sub(1), value.saturating_sub(1)]
-                    }
-                    _ => [channel.wrapping_sub(1), value],
-                }),
-        );
+        message.extend(self.pairs());
         message.push(0xF7);
         match self.mistake {
             Some(Mistake::DeviceByte0) => message[2] = 0,
@@ -1084,14 +1070,34 @@ impl PlainLog {
             Some(Mistake::NoF7) => message[37] = 0,
             Some(Mistake::MessageOneByteEarly) => message.rotate_left(1),
             Some(Mistake::EmptyLogAllZeros) if self.lines == 0 => message.fill(0),
-            Some(Mistake::ChannelsThenValues) => {
-                let channels = pairs.iter().map(|pair| pair.0.wrapping_sub(1));
-                let values = pairs.iter().map(|pair| pair.1);
-                drop(message.splice(5..37, channels.chain(values)));
-            }
             _ => {}
         }
         std::array::from_fn(|at| message[at])
+    }
+
+    /// The pairs of the message.
+    fn pairs(&self) -> Vec<u8> {
+        let mut pairs: Vec<(u8, u8)> = self.order.into_iter().zip(self.most).collect();
+        match self.mistake {
+            Some(Mistake::MessageByNumber) => pairs.sort_unstable(),
+            Some(Mistake::MessageBackward) => pairs.reverse(),
+            Some(Mistake::ChannelsThenValues) => {
+                let channels = pairs.iter().map(|pair| pair.0.wrapping_sub(1));
+                return channels.chain(pairs.iter().map(|pair| pair.1)).collect();
+            }
+            _ => {}
+        }
+        let pair = |(channel, value): (u8, u8)| {
+            let wire = channel.wrapping_sub(1);
+            match self.mistake {
+                Some(Mistake::ChannelNotLowered) => [channel, value],
+                Some(Mistake::ChannelsFromTwo) => [channel.wrapping_sub(2), value],
+                Some(Mistake::PairsSwapped) => [value, wire],
+                Some(Mistake::ValuesInMessageOneLess) => [wire, value.saturating_sub(1)],
+                _ => [wire, value],
+            }
+        };
+        pairs.into_iter().flat_map(pair).collect()
     }
 
     /// "38 zero bytes in place of the message."
@@ -1176,12 +1182,12 @@ impl PlainLog {
 impl PlainLog {
     fn take_byte(&mut self, byte: u8) {
         self.bytes += 1;
-        let ends = match (self.mistake, byte) {
-            (_, b'\n') => true,
-            (Some(Mistake::CarriageReturnEndsALine), b'\r') => true,
-            (Some(Mistake::ZeroByteEndsALine), 0) => true,
-            _ => false,
-        };
+        let ends = matches!(
+            (self.mistake, byte),
+            (_, b'\n')
+                | (Some(Mistake::CarriageReturnEndsALine), b'\r')
+                | (Some(Mistake::ZeroByteEndsALine), 0)
+        );
         if ends {
             self.line_ends();
             if self.makes(Mistake::LineEndKept) {
@@ -1202,18 +1208,11 @@ impl PlainLog {
 
     /// A number that falls before the line's end, by a mistake.
     fn tell_early(&mut self) {
-        if self.number != 0 {
-            return;
-        }
-        let line = &self.line[..];
-        let may_be_right = match line {
-            [b'b' | b'e'] | [b'b' | b'e', b','] => true,
-            _ => self.read(line).is_some(),
-        };
         let early = match self.mistake {
-            Some(Mistake::WrongBytesToldBeforeTheLineEnds) if !may_be_right => OTHER_FORM,
+            _ if self.number != 0 => return,
+            Some(Mistake::WrongBytesToldBeforeTheLineEnds) if !self.may_be_right() => OTHER_FORM,
             Some(Mistake::SpoiltToldBeforeTheLineEnds)
-                if line == b"b,247" && is_head(sysex_of(&self.device)) =>
+                if self.line == b"b,247" && is_head(sysex_of(&self.device)) =>
             {
                 SPOILT
             }
@@ -1221,6 +1220,14 @@ impl PlainLog {
         };
         self.lines = self.lines.saturating_add(1);
         self.number = early;
+    }
+
+    /// Can the line become a right one?
+    fn may_be_right(&self) -> bool {
+        match self.line[..] {
+            [b'b' | b'e'] | [b'b' | b'e', b','] => true,
+            _ => self.read(&self.line).is_some(),
+        }
     }
 
     fn take_part(&mut self, part: &[u8]) {

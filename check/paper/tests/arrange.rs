@@ -109,49 +109,19 @@ fn each_other_byte_in_a_line_is_number_15() {
     }
 }
 
+/// Lines that are none, without their ends.
+#[rustfmt::skip]
+const WRONG: [&str; 34] = [
+    "", "b", "b,", "e,", ",", "144", "b144", "b,256", "b,300", "b,999", "b,1000", "e,64",
+    "e,255", "b,00", "b,01", "b,-1", "b,+1", "b, 1", " b,1", "b,1 ", "b ,1", "B,1", "E,1", "b,1\r",
+    "b;1", "b,1,", "b,1b,2", "c,1", "b,0x1", "b,1.0", "b,256256", "b,1440000000000000", "b,2550", "e,630",
+];
+
 #[test]
 fn lines_of_another_form() {
-    for wrong in [
-        "",
-        "b",
-        "b,",
-        "e,",
-        ",",
-        "144",
-        "b144",
-        "b,256",
-        "b,300",
-        "b,999",
-        "b,1000",
-        "e,64",
-        "e,255",
-        "b,00",
-        "b,01",
-        "b,-1",
-        "b,+1",
-        "b, 1",
-        " b,1",
-        "b,1 ",
-        "b ,1",
-        "B,1",
-        "E,1",
-        "b,1\r",
-        "b;1",
-        "b,1,",
-        "b,1b,2",
-        "c,1",
-        "b,0x1",
-        "b,1.0",
-        "b,256256",
-        "b,1440000000000000",
-        "b,2550",
-        "e,630",
-    ] {
-        assert_eq!(
-            refused(&format!("{wrong}\n")),
-            (Number::LogOtherForm, 1),
-            "{wrong}"
-        );
+    for wrong in WRONG {
+        let first = format!("{wrong}\n");
+        assert_eq!(refused(&first), (Number::LogOtherForm, 1), "{wrong}");
         let middle = format!("b,144\ne,3\n{wrong}\nb,1\n");
         assert_eq!(refused(&middle), (Number::LogOtherForm, 3), "{wrong}");
     }
