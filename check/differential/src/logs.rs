@@ -342,6 +342,9 @@ fn lines() -> impl Iterator<Item = Vec<u8>> {
         "e,65536",
         "e,4294967296",
         "b,18446744073709551760",
+        "b,-0",
+        "b,-1",
+        "b,1e1",
     ];
     let written = numbers.chain(zeros).chain(far.map(str::to_string));
     let short = (0..=4u32).flat_map(|length| {
