@@ -22,10 +22,10 @@ use Rattle.order.proofs.Once.{order-holds}
 use Rattle.arranging.specs.declared.Written.{Written}
 use Rattle.arranging.specs.Arranging.{fresh, spoils, atLine, fault, lookedAt, records, values, listing, mipMessage, told, refused, writtenBy, message}
 use Rattle.arranging.specs.declared.Run.{Run}
-use Rattle.arranging.specs.Run.{heard, begun, finished}
+use Rattle.arranging.specs.Run.{heard, joined, begun, finished}
 use Rattle.arranging.proofs.Bytes.{message-length}
 use Rattle.arranging.proofs.Parts.{heard-append, parts}
-use Rattle.arranged.specs.Laws.{valuesOf, fed, ReaderTakes, AllTight, ZerosBeside, heardParts, joined, PartsMakeNoDifference}
+use Rattle.arranged.specs.Laws.{valuesOf, fed, ReaderTakes, AllTight, ZerosBeside, heardParts, PartsMakeNoDifference}
 use Rattle.arranged.proofs.Reader.{reader-takes}
 use Rattle.arranged.proofs.Tight.{never-above, tight}
 

@@ -17,9 +17,9 @@ use Rattle.events.specs.Events.{taken}
 use Rattle.log.specs.Log.{eventOf, linesOf}
 use Rattle.arranging.specs.declared.Written.{Written}
 use Rattle.arranging.specs.Arranging.{joint, message}
-use Rattle.arranging.specs.Run.{begun, finished}
+use Rattle.arranging.specs.Run.{joined, begun, finished}
 use Rattle.arranging.proofs.Witness.{one-to-sixteen, log, in-turn}
-use Rattle.arranged.specs.Laws.{fed, valuesOf, recordAfter, GivenBack, ReaderTakes, Tight, AllTight, ZerosBeside, recordBefore, NoOtherNumber, joined, heardParts, PartsMakeNoDifference}
+use Rattle.arranged.specs.Laws.{fed, valuesOf, recordAfter, GivenBack, ReaderTakes, Tight, AllTight, ZerosBeside, recordBefore, NoOtherNumber, heardParts, PartsMakeNoDifference}
 use Rattle.arranged.proofs.Message.{given-back}
 
 -- ---- the words

@@ -2,7 +2,7 @@
 -- Assumes nothing.
 use Prim.Native.Nat.{ℕ, _-_, _≤_, _<_}
 use mathlib.Core.Path.{_≡_}
-use mathlib.Core.List.{List, [], _∷_, _++_, map}
+use mathlib.Core.List.{List, [], _∷_, map}
 use mathlib.Core.Option.{some}
 use lib.ListN.{length, getD, replicate}
 use Rattle.table.specs.declared.Entry.{Entry}
@@ -17,7 +17,7 @@ use Rattle.events.specs.Events.{taken}
 use Rattle.log.specs.Log.{eventOf, linesOf}
 use Rattle.arranging.specs.declared.Run.{Run}
 use Rattle.arranging.specs.Arranging.{fresh, records, joint, values, message}
-use Rattle.arranging.specs.Run.{heard, begun, finished}
+use Rattle.arranging.specs.Run.{heard, joined, begun, finished}
 
 -- ---- our reader
 
@@ -72,10 +72,6 @@ NoOtherNumber =
     → numberOf (taken (recordBefore log j) e .answer) ≡ some n → (n ≡ 13 → ⊥) → n ≤ 11
 
 -- ---- a log in parts
-
-abbrev pub joined : List (List ℕ) → List ℕ
-joined [] = []
-joined (p ∷ ps) = p ++ joined ps
 
 abbrev pub heardParts : Run → List (List ℕ) → Run
 heardParts r [] = r

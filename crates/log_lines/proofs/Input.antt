@@ -14,8 +14,8 @@ use Rattle.loops.specs.Cases.{if_then_else_}
 use Rattle.arranging.specs.declared.Run.{Run}
 use Rattle.arranging.specs.declared.Written.{Written}
 use Rattle.arranging.specs.Arranging.{message}
-use Rattle.arranging.specs.Run.{begun, byteHeard, heard, finished}
-use Rattle.arranging.proofs.Parts.{parts, joined}
+use Rattle.arranging.specs.Run.{joined, begun, byteHeard, heard, finished}
+use Rattle.arranging.proofs.Parts.{parts}
 use Rattle.log_lines.specs.declared.OrderLine.{OrderLine}
 use Rattle.log_lines.specs.declared.Reading.{Reading}
 use Rattle.log_lines.specs.LogLines.{newOrder, orderByte, orderBytes, orderIn, reading, newReading, byteRead, bytesRead, ended, firstLine, behindFirst, arranged}
