@@ -100,6 +100,30 @@ fn values_are_those_of_a_device() {
     }
 }
 
+/// RP-034 2.2.1: the notes of each channel in its Figure 2, and the message that is printed for them. Which notes sound at the same time our text of the figure has lost; these moments fit its values.
+#[test]
+fn the_message_that_rp_034_prints() {
+    let order = [1, 10, 2, 3, 4, 11, 5, 9, 6, 8, 7, 12, 13, 14, 15, 16];
+    let moments: [&[(u8, u8)]; 4] = [
+        &[(1, 4), (10, 2), (2, 1), (4, 3), (8, 3)],
+        &[(1, 4), (10, 5), (2, 1), (3, 2), (11, 4), (5, 1), (9, 3), (6, 6)],
+        &[(1, 3), (10, 5), (2, 1), (3, 3)],
+        &[(1, 3), (10, 5), (4, 4)],
+    ];
+    let mut log = String::new();
+    for moment in moments {
+        for (channel, notes) in moment {
+            // drums 35 to 39 are in no exclusive group
+            let keys: Vec<u8> = (35..35 + notes).flat_map(|key| [key, 64]).collect();
+            log += &(bytes(&[0x90 + channel - 1]) + &bytes(&keys));
+        }
+        log += &(0..16).map(|channel| bytes(&[0xB0 + channel, 120, 0])).collect::<String>();
+    }
+    let printed = "F0 7F 7F 0B 01 00 04 09 09 01 0A 02 0C 03 0C 0A 10 04 11 08 14 05 1A 07 1A 06 1A 0B 1A 0C 1A 0D 1A 0E 1A 0F 1A F7";
+    let message = mip_from_log(&order, log.as_bytes()).unwrap();
+    assert_eq!(message.bytes.map(|byte| format!("{byte:02X}")).join(" "), printed);
+}
+
 #[test]
 fn numbers_and_their_lines() {
     // 64 keys, of which no two end each other on channel 10

@@ -1,12 +1,14 @@
 // The programs that read standard input and write standard output, each as a function that answers its exit status. One loop reads for all of them, an input of any
-// length, and what is known is written before more is waited for; the answers to requests of songs go to standard error. What the bytes answer is in crates `listed`, `pitch_lines` and `song_lines`. Assumes the contracts of the C
+// length, and what is known is written before more is waited for; the answers to requests of songs, and of a log, go to standard error. What the bytes answer is in crates `listed`, `pitch_lines`, `song_lines` and `log_lines`. Assumes the contracts of the C
 // library's read and write, and nothing else.
 ghost use Prim.Native.Nat.{_≤_};
+use arranging::Written;
 use console::Input;
 use console::Output;
 use fields::Line;
 use listed::Awaits;
 use listed::Lister;
+use log_lines::Reading;
 use song::SongAnswer;
 use song_lines::Request;
 
@@ -14,6 +16,7 @@ enum Program {
     Listing,
     Pitches,
     HardestSong,
+    Arrange,
 }
 
 // What is kept from read to read: which program it is, and what each of them keeps.
@@ -21,6 +24,7 @@ struct Kept {
     program: Program,
     lister: Lister,
     line: Line,
+    reading: Reading,
     // A request of a song was refused or malformed.
     refused: bool,
 }
@@ -46,10 +50,12 @@ fn empty_page() -> [u8; 131072] {
 fn begin(program: Program) -> Kept {
     let lister = listed::begin();
     let line = fields::begin();
+    let reading = log_lines::begin();
     Kept {
         program: program,
         lister: lister,
         line: line,
+        reading: reading,
         refused: false,
     }
 }
@@ -65,6 +71,9 @@ fn tell(program: Program, what: &[u8]) -> bool {
         }
         Program::HardestSong => {
             console::fail(b"hardest_song");
+        }
+        Program::Arrange => {
+            console::fail(b"arrange");
         }
     }
     console::fail(what);
@@ -210,12 +219,53 @@ fn end_songs(k: Kept, page: &mut [u8]) -> Turn {
     }
 }
 
+// The message is written whole before its line says so.
+fn message_outcome(page: &mut [u8], w: Written) -> Outcome {
+    let used = log_lines::put_message(page, w);
+    if write_out(Program::Arrange, page, used) {
+        return Outcome {
+            refused: false,
+            failed: true,
+        };
+    }
+    let mut line = [0u8; 160];
+    let length = log_lines::put_written(&mut line, 0, w);
+    answered(&line, length, w.number != 0)
+}
+
+// The answer to a log ends the program, and a number is told by the status.
+fn give_message(k: Kept, page: &mut [u8]) -> Turn {
+    let w = log_lines::end(k.reading);
+    let o = message_outcome(page, w);
+    Turn {
+        more: false,
+        failed: o.failed | o.refused,
+        kept: k,
+    }
+}
+
+// Where a number has fallen the answer is known, whatever comes behind it.
+fn hear(k: Kept, page: &mut [u8], bytes: &[u8]) -> Turn {
+    let reading = log_lines::all(k.reading, bytes);
+    let mut next = k;
+    next.reading = reading;
+    if log_lines::is_known(reading) {
+        return give_message(next, page);
+    }
+    Turn {
+        more: true,
+        failed: false,
+        kept: next,
+    }
+}
+
 fn take(k: Kept, page: &mut [u8], bytes: &[u8]) -> Turn {
     let program = k.program;
     match program {
         Program::Listing => list(k, page, bytes),
         Program::Pitches => pitch(k, page, bytes),
         Program::HardestSong => answer_all(k, page, bytes),
+        Program::Arrange => hear(k, page, bytes),
     }
 }
 
@@ -236,6 +286,7 @@ fn end(k: Kept, page: &mut [u8]) -> Turn {
         Program::Listing => end_list(k, page),
         Program::Pitches => end_pitch(k, page),
         Program::HardestSong => end_songs(k, page),
+        Program::Arrange => give_message(k, page),
     }
 }
 
@@ -296,6 +347,10 @@ fn song_all(page: &mut [u8]) -> bool {
     read_all(begin(Program::HardestSong), page)
 }
 
+fn arrange_all(page: &mut [u8]) -> bool {
+    read_all(begin(Program::Arrange), page)
+}
+
 // The exit status: 0, or 1 if the program failed.
 fn status(failed: bool) -> u32
     ensures { λ r. ⌜ r ≤ 1 ⌝ }
@@ -331,4 +386,14 @@ pub extern "C" fn hardest_song_status() -> u32
     let mut space = empty_page();
     let page: &mut [u8] = &mut space;
     status(song_all(page))
+}
+
+// That of the program that writes the MIP message of a log: 1 too if a number fell.
+#[no_mangle]
+pub extern "C" fn arrange_status() -> u32
+    ensures { λ r. ⌜ r ≤ 1 ⌝ }
+{
+    let mut space = empty_page();
+    let page: &mut [u8] = &mut space;
+    status(arrange_all(page))
 }

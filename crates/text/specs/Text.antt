@@ -1,8 +1,8 @@
--- Text in a page of bytes, and a number as text.
-use Prim.Native.Nat.{ℕ, zero, suc, _+_, _/_, _%_, min, max}
+-- Text in a page of bytes, and numbers as text.
+use Prim.Native.Nat.{ℕ, zero, suc, _+_, _-_, _/_, _%_, min, max}
 use mathlib.Core.Path.{_≡_}
 use mathlib.Core.List.{List, [], _∷_, _++_}
-use lib.Dec.{ltb}
+use lib.Dec.{ltb, eqb}
 use lib.ListN.{length}
 use lib.Seq.{sets}
 use Rattle.loops.specs.Cases.{if_then_else_}
@@ -21,3 +21,19 @@ decimalWithin (suc k) n = if ltb n 10 then (48 + n) ∷ [] else decimalWithin k 
 -- every number of 64 bits has at most twenty digits
 abbrev pub decimal : ℕ → List ℕ
 decimal n = decimalWithin 20 n
+
+-- a hexadecimal digit in ASCII, a capital letter from 10 on; a byte as two of them
+unfoldable pub hexDigit : ℕ → ℕ
+hexDigit d = if ltb d 10 then 48 + d else 65 + (d - 10)
+
+abbrev pub hexadecimal : ℕ → List ℕ
+hexadecimal b = hexDigit (b / 16) ∷ hexDigit (b % 16) ∷ []
+
+-- bytes, a blank between each two: before the one at i there is one, unless it is the first
+abbrev pub blankAt : ℕ → List ℕ
+blankAt i = if eqb i 0 then [] else 32 ∷ []
+
+unfoldable pub hexadecimals : List ℕ → List ℕ
+hexadecimals [] = []
+hexadecimals (b ∷ []) = hexadecimal b
+hexadecimals (b ∷ c ∷ l) = hexadecimal b ++ (32 ∷ hexadecimals (c ∷ l))

@@ -16,13 +16,17 @@
 //     L cc        the same, by the numbers of channel cc
 //     H pp nn nn nn ll ll ll  the thefts of the hardest song for polyphony pp, of n bytes in a buffer of l bytes, each in three numbers, highest first; below it the
 //                 buffer, all FF before, where it has 1 to 64 bytes. l is at most 65,538
+//     O oo ..     begins a log with this order, 1 to 64 numbers or none
+//     A bb ..     a part of the log, 1 to 64 bytes
+//     E           the end of the log so far: number, line and message, the message in hexadecimal
 //
 // A refused query answers its number only. Any other line is answered `malformed` and has no effect; an empty line has no answer. Before the first P the device
-// is one with P 1 and own ID 0. Assumes the contracts of the C library's read and write, and nothing else.
+// is one with P 1 and own ID 0, and before the first O the log is one of an order of no channels; O, A and E leave the device as it is. Assumes the contracts of the C library's read and write, and nothing else.
 ghost use mathlib.Core.Bool.{not};
 ghost use lib.Dec.{T};
 ghost use lib.Ieee.{isNan};
 ghost use Rattle.gains.specs.Gains.{gainsIn};
+use arranging::Run;
 use channels::Channel;
 use console::Input;
 use console::Output;
@@ -62,12 +66,13 @@ struct Line {
     numbers: [u8; 64],
 }
 
-// What is kept from byte to byte: the line, the offset of the next MIDI byte, the bytes of the page in use, and the device.
+// What is kept from byte to byte: the line, the offset of the next MIDI byte, the bytes of the page in use, the device, and the log.
 struct Bench {
     line: Line,
     at: u64,
     used: usize,
     device: Device,
+    log: Run,
 }
 
 // After a turn: whether to go on, whether reading or writing failed, and what is kept.
@@ -402,45 +407,12 @@ fn put_song(page: &mut [u8], at: usize, a: SongAnswer) -> usize {
     }
 }
 
-// The last hexadecimal digit of a number.
-fn put_hex_digit(page: &mut [u8], at: usize, n: u8) -> usize {
-    let d = n % 16;
-    if d < 10 {
-        return text::put_byte(page, at, b'0' + d);
-    }
-    text::put_byte(page, at, b'A' + (d - 10))
-}
-
-// A blank behind each byte but the last: before the one at i.
-fn put_gap(page: &mut [u8], at: usize, i: usize) -> usize {
-    if 0 < i {
-        return put(page, at, b" ");
-    }
-    at
-}
-
-fn put_hex(page: &mut [u8], at: usize, i: usize, b: u8) -> usize {
-    let k = put_gap(page, at, i);
-    let l = put_hex_digit(page, k, b / 16);
-    put_hex_digit(page, l, b)
-}
-
-fn put_bytes(page: &mut [u8], at: usize, buffer: &[u8]) -> usize {
-    let mut k = at;
-    let mut i = 0;
-    while i < buffer.len() {
-        k = put_hex(page, k, i, buffer[i]);
-        i += 1;
-    }
-    k
-}
-
 // The song of n bytes in this buffer, whose bytes are shown if they are few.
 fn put_played(page: &mut [u8], at: usize, polyphony: u8, n: usize, buffer: &mut [u8]) -> usize {
     let a = song::write_song(polyphony, n, buffer);
     let k = put_song(page, at, a);
     if (0 < buffer.len()) & (buffer.len() <= 64) {
-        let l = put_bytes(page, k, buffer);
+        let l = text::put_bytes(page, k, buffer);
         return put(page, l, b"\n");
     }
     k
@@ -568,10 +540,51 @@ fn take_bytes(s: Bench, page: &mut [u8], numbers: [u8; 64], count: usize) -> Ben
     next
 }
 
+// A log of the order that the first `count` of these numbers are.
+fn begin_log(numbers: [u8; 64], count: usize) -> Run {
+    if count < 64 {
+        return arranging::begin(&numbers[..count]);
+    }
+    arranging::begin(&numbers)
+}
+
+// The first `count` of these numbers, as bytes of the log.
+fn take_part(log: Run, numbers: [u8; 64], count: usize) -> Run {
+    if count < 64 {
+        return arranging::take(log, &numbers[..count]);
+    }
+    arranging::take(log, &numbers)
+}
+
+fn put_end(page: &mut [u8], at: usize, log: Run) -> usize {
+    log_lines::put_written(page, at, arranging::end(log))
+}
+
+fn with_log(s: Bench, log: Run) -> Bench {
+    let mut next = s;
+    next.log = log;
+    next
+}
+
+// A command to the log, or one that asks the device.
+fn run_log(s: Bench, page: &mut [u8], command: u8, count: usize, numbers: [u8; 64]) -> Bench {
+    let log = s.log;
+    let d = s.device;
+    if command == b'O' {
+        return with_log(s, begin_log(numbers, count));
+    }
+    if (command == b'A') & (0 < count) {
+        return with_log(s, take_part(log, numbers, count));
+    }
+    if (command == b'E') & (count == 0) {
+        return with_used(s, put_end(page, s.used, log));
+    }
+    with_used(s, put_told(page, s.used, d, command, count, numbers[0]))
+}
+
 // A command.
 fn run(s: Bench, page: &mut [u8]) -> Bench {
     let l = s.line;
-    let d = s.device;
     let command = l.command;
     let count = l.count;
     let numbers = l.numbers;
@@ -593,7 +606,7 @@ fn run(s: Bench, page: &mut [u8]) -> Bench {
     if (command == b'H') & (count == 7) {
         return with_used(s, put_song_asked(page, s.used, numbers));
     }
-    with_used(s, put_told(page, s.used, d, command, count, numbers[0]))
+    run_log(s, page, command, count, numbers)
 }
 
 // A line's end: the line is run, if it is a command.
@@ -713,11 +726,13 @@ fn read_all(s: Bench, page: &mut [u8]) -> bool {
 fn run_all(page: &mut [u8]) -> bool {
     let o = device::start(1, 0);
     let d = o.device;
+    let log = arranging::begin(b"");
     let s = Bench {
         line: empty_line(),
         at: 0,
         used: 0,
         device: d,
+        log: log,
     };
     read_all(s, page)
 }

@@ -1,0 +1,4 @@
+pub mod Sizes
+pub mod Input
+pub mod Order
+pub mod Room

@@ -1,0 +1,94 @@
+-- `log_lines::all`: in the log all is heard at once. In the order's line the invariant is that what is left of the bytes, read by what is kept, is all of them; the measure is what is left.
+-- Assumes nothing.
+use Prim.Native.Nat.{_+_, _-_, _≤_}
+use mathlib.Core.Path.{_≡_, refl, sym, ap, _∙_}
+use mathlib.Core.Bool.{true, false}
+use native.Mathlib.Omega.{arith}
+use lib.ListN.{length, take, drop}
+use Rattle.arranging.specs.declared.Run.{Run}
+use Rattle.arranging.specs.Run.{heard}
+use Rattle.log_lines.specs.declared.OrderLine.{OrderLine}
+use Rattle.log_lines.specs.LogLines.{reading, bytesRead}
+use Rattle.log_lines.proofs.Input.{in-log, in-order, at-end, at-byte, no-more}
+use borrow.Author.Needs.{needs}
+use Rattle.log_lines.proofs.all.Statement.{statement}
+use Rattle.log_lines.proofs.all.Tie as tie
+
+abbrev Inv-loop : tie.InvT-loop
+Inv-loop bytes run order₀ i₀ order i = (i ≤ length bytes) × (bytesRead (reading false order run) (drop i bytes) ≡ bytesRead (reading false order₀ run) bytes)
+
+abbrev μ-loop : tie.MeasureT-loop
+μ-loop bytes run order₀ i₀ order i = length bytes - i
+
+take-requires : tie.Need-take-requires Inv-loop μ-loop
+take-requires c κs = search needs
+
+in-log-requires : tie.Need-in-log-requires Inv-loop μ-loop
+in-log-requires c κs = search needs
+
+returns : tie.Need-returns Inv-loop μ-loop
+returns c = c .in-log .ensures ∙ ap (reading true _) (c .before .take .ensures) ∙ sym (in-log _ _ (c .before .before .if1 .taken))
+
+loop-holds : tie.Need-loop-holds Inv-loop μ-loop
+loop-holds c = (omega arith, refl)
+
+shared-slice-read-b : tie.Need-shared-slice-read-b Inv-loop μ-loop
+shared-slice-read-b c = search needs
+
+add-i : tie.Need-add-i Inv-loop μ-loop
+add-i c = search needs
+
+begin-log-requires : tie.Need-begin-log-requires Inv-loop μ-loop
+begin-log-requires c κs = search needs
+
+sub-take : tie.Need-sub-take Inv-loop μ-loop
+sub-take c = search needs
+
+part-take-start : tie.Need-part-take-start Inv-loop μ-loop
+part-take-start c = search needs
+
+part-take-end : tie.Need-part-take-end Inv-loop μ-loop
+part-take-end c = search needs
+
+take-requires-2 : tie.Need-take-requires-2 Inv-loop μ-loop
+take-requires-2 c κs = search needs
+
+in-log-requires-2 : tie.Need-in-log-requires-2 Inv-loop μ-loop
+in-log-requires-2 c κs = search needs
+
+returns-2 : tie.Need-returns-2 Inv-loop μ-loop
+returns-2 c =
+    let t = c .before .before .before .before in
+    let l = t .before .before .before .loop in
+    let a = t .before .before .before .before .before .before .before .before .args in
+    let h = t .before .before .loop-test .taken in
+    c .in-log2 .ensures
+    ∙ ap (reading true (l .order)) (c .before .take2 .ensures ∙ ap (λ (r : Run). heard r (take (length (a .bytes .now) - (l .i + 1)) (drop (l .i + 1) (a .bytes .now)))) (c .before .before .before .begin-log .ensures))
+    ∙ sym (at-end (a .bytes .now) (l .i) h (l .order) (a .c .run) (t .if2 .taken))
+    ∙ l .inv .1
+    ∙ sym (in-order (a .c) (a .bytes .now) (t .before .before .before .before .before .if1 .left))
+
+next-requires : tie.Need-next-requires Inv-loop μ-loop
+next-requires c κs = search needs
+
+loop-less : tie.Need-loop-less Inv-loop μ-loop
+loop-less c = search needs
+
+loop-again : tie.Need-loop-again Inv-loop μ-loop
+loop-again c =
+    let t = c .before in
+    let l = t .before .before .before .loop in
+    let a = t .before .before .before .before .before .before .before .before .args in
+    let h = t .before .before .loop-test .taken in (
+      omega arith,
+      ap (λ (o : OrderLine). bytesRead (reading false o (a .c .run)) (drop (l .i + 1) (a .bytes .now))) (c .next .ensures) ∙ sym (at-byte (a .bytes .now) (l .i) h (l .order) (a .c .run) (t .if2 .left)) ∙ l .inv .1,
+    )
+
+returns-3 : tie.Need-returns-3 Inv-loop μ-loop
+returns-3 c =
+    let l = c .before .loop in
+    let a = c .before .before .before .before .before .before .args in
+    sym (no-more (a .bytes .now) (l .i) (reading false (l .order) (a .c .run)) (c .loop-test .left)) ∙ l .inv .1 ∙ sym (in-order (a .c) (a .bytes .now) (c .before .before .before .if1 .left))
+
+pub all-spec : {M : Type 1} → statement M
+all-spec = tie.close (tie.spec Inv-loop μ-loop take-requires in-log-requires returns loop-holds shared-slice-read-b add-i begin-log-requires sub-take part-take-start part-take-end take-requires-2 in-log-requires-2 returns-2 next-requires loop-less loop-again returns-3)

@@ -1,0 +1,44 @@
+-- `vectors::take_part`: what is lent has as many numbers as the line, at most 64.
+-- Assumes nothing.
+use native.Mathlib.Omega.{arith}
+use lib.ListN.{length-take}
+use borrow.Author.Needs.{needs}
+use Rattle.vectors.proofs.take_part.Statement.{statement}
+use Rattle.vectors.proofs.take_part.Tie as tie
+
+array-share-prefix-numbers : tie.Need-array-share-prefix-numbers
+array-share-prefix-numbers c = search needs
+
+slice-aggregate-take : tie.Need-slice-aggregate-take
+slice-aggregate-take c =
+    let s = c .before .before in
+    let n = s .good .1 .0 .1 .0 .1 in
+    let k = length-take (s .args .count) (s .args .t2) in
+    omega arith
+
+take-requires : tie.Need-take-requires
+take-requires c κs = search needs
+
+returns : tie.Need-returns
+returns c = search needs
+
+slice-aggregate-take-2 : tie.Need-slice-aggregate-take-2
+slice-aggregate-take-2 c = search needs
+
+take-requires-2 : tie.Need-take-requires-2
+take-requires-2 c κs = search needs
+
+returns-2 : tie.Need-returns-2
+returns-2 c = search needs
+
+pub take-part-spec : {M : Type 1} → statement M
+take-part-spec =
+    tie.close
+    (tie.spec
+    array-share-prefix-numbers
+    slice-aggregate-take
+    take-requires
+    returns
+    slice-aggregate-take-2
+    take-requires-2
+    returns-2)
