@@ -288,7 +288,7 @@ uint8_t muntinorris_log_begin(struct muntinorris_log *log, const uint8_t *order,
 
 /*
  * One part more of the log, of any length (0 too), cut anywhere, inside a line as well: the log may be longer than memory. Answers the number that has fallen so far, 15, 16 or 17, or 0;
- * behind a number nothing is looked at any more, and no further part is needed. The part is lent for the call.
+ * behind a number nothing is looked at any more, and no further part is needed. The part is lent for the call. It takes some 11 KB of stack (x86-64).
  */
 uint8_t muntinorris_log_part(struct muntinorris_log *log, const uint8_t *part, size_t n);
 
@@ -298,7 +298,7 @@ uint8_t muntinorris_log_part(struct muntinorris_log *log, const uint8_t *part, s
  */
 struct muntinorris_mip_answer muntinorris_log_end(const struct muntinorris_log *log);
 
-/* All in one: the order of n channels, and the whole log of length bytes. Number 16 before 15 and 17; of these the earlier line decides. */
+/* All in one: the order of n channels, and the whole log of length bytes. Number 16 before 15 and 17; of these the earlier line decides. It takes some 11 KB of stack (x86-64). */
 struct muntinorris_mip_answer muntinorris_mip_from_log(const uint8_t *order, size_t n, const uint8_t *log, size_t length);
 
 #ifdef __cplusplus

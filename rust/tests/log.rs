@@ -235,26 +235,65 @@ fn a_device_takes_the_message() {
     }
 }
 
-/// A record that nobody begun: the calls return, the rest of the record stands as the header says.
+/// A log of any bytes, which is one: it is made of whole numbers and padding.
+fn rubbish(bytes: [u8; size_of::<Log>()]) -> Log {
+    let mut memory = MaybeUninit::<Log>::uninit();
+    // SAFETY: as many bytes are written as a log has, and any will do.
+    unsafe {
+        memory.as_mut_ptr().cast::<u8>().copy_from(bytes.as_ptr(), bytes.len());
+        memory.assume_init()
+    }
+}
+
+/// The places of fields in those bytes (`record::layout`).
+const LINES: usize = 544;
+const NUMBER: usize = 552;
+const COUNT: usize = 560;
+
+/// Records that no begin made: the calls return, and the fields are what the header says they are.
 #[test]
 fn records_full_of_rubbish() {
-    let mut log = Vec::new();
-    for pattern in 0..=255 {
-        let mut memory = MaybeUninit::<Log>::uninit();
-        // SAFETY: a log is made of whole numbers, for which any bytes will do.
-        let mut rubbish = unsafe {
-            memory.as_mut_ptr().cast::<u8>().write_bytes(pattern, size_of::<Log>());
-            memory.assume_init()
-        };
+    for pattern in 1..=255 {
+        let mut log = rubbish([pattern; size_of::<Log>()]);
         let lines = u64::from_ne_bytes([pattern; 8]);
-        if pattern == 0 {
-            assert_eq!(rubbish.end().map(|m| m.lines), Ok(0));
-        } else {
-            assert_eq!(rubbish.end(), refused(pattern, lines));
-            assert_eq!(rubbish.part(b"b,144\nb,60\nb,64\n"), Err(Refused(pattern)));
-            assert_eq!((rubbish.song().lines, rubbish.song().most, rubbish.line().count), (lines, [pattern; 16], 0));
-        }
-        log.push(rubbish);
+        assert_eq!(log.end(), refused(pattern, lines));
+        assert_eq!(log.part(b"b,144\nb,60\nb,64\n"), Err(Refused(pattern)));
+        assert_eq!((log.song().lines, log.song().most, log.line().count), (lines, [pattern; 16], 0));
     }
-    log[0].part(b"b,144\nb,60\nb,64\ne,255\ne,0\n").unwrap_err();
+    let mut seed: u32 = 7;
+    let mut spoilt = 0;
+    for _ in 0..2_000 {
+        let mut bytes = [0; size_of::<Log>()].map(|_: u8| {
+            seed = seed.wrapping_mul(1_664_525).wrapping_add(1_013_904_223);
+            (seed >> 24) as u8
+        });
+        bytes[NUMBER] = 0;
+        bytes[COUNT] = 0;
+        let mut log = rubbish(bytes);
+        let before = log.clone();
+        let number = log.part(b"b,144\nb,60\nb,64\nb,128\nb,60\nb,64\ne,5\nb,176\nb,123\nb,0\n");
+        assert_eq!(log.song().order, before.song().order);
+        assert!(log.song().most.iter().zip(before.song().most).all(|(now, then)| *now >= then));
+        match number {
+            Ok(()) => assert_eq!(log.song().lines, before.song().lines + 10),
+            Err(Refused(17)) => spoilt += 1,
+            other => panic!("{other:?}"),
+        }
+        let end = log.end();
+        assert_eq!(end.map(|m| m.lines).map_err(|e| e.line), if number.is_ok() { Ok(log.song().lines) } else { Err(log.song().lines) });
+    }
+    assert!(0 < spoilt && spoilt < 2_000);
+}
+
+#[test]
+fn lines_are_told_up_to_the_highest_number() {
+    let mut bytes = [0; size_of::<Log>()];
+    bytes[LINES..LINES + 8].copy_from_slice(&(u64::MAX - 1).to_ne_bytes());
+    let mut log = rubbish(bytes);
+    for line in ["b,144\n", "b,144\n", "b,248\n"] {
+        assert_eq!(log.part(line.as_bytes()), Ok(()));
+        assert_eq!(log.end().map(|m| m.lines), Ok(u64::MAX));
+    }
+    assert_eq!(log.part(b"x\n"), Err(Refused(15)));
+    assert_eq!(log.end(), refused(15, u64::MAX));
 }
