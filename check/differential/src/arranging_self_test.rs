@@ -1,7 +1,8 @@
 //! Shows that the comparison of logs can fail: wrong forms of ticket 1 must be found, and messages that a device does not take.
 
 use crate::arranging::{Comparison, Readers};
-use crate::plain_log::{PlainLog, MISTAKES};
+use crate::arranging_sides::Arranger;
+use crate::plain_log::{PlainLog, WrongWhole, MISTAKES, RECORD_ALONE};
 
 /// Every wrong variant must be found within so many logs, as many as a run has.
 const WITHIN: u64 = 60_000;
@@ -17,17 +18,34 @@ pub fn run(seed: u64) -> Vec<String> {
         complaints.push(format!("no mistake about logs at all: {found}"));
     }
     for &mistake in MISTAKES {
-        let mut wrong = Comparison::new(PlainLog::new(Some(mistake)), &readers);
-        match wrong.run(seed, WITHIN) {
-            Err(found) if found.starts_with("log: ") => println!("{mistake:?}: found, {found}"),
-            found => complaints.push(format!("{mistake:?}: expected \"log: \", found {found:?}")),
+        let wrong = Comparison::new(PlainLog::new(Some(mistake)), &readers);
+        complaints.extend(must_be_found(&format!("{mistake:?}"), wrong, seed));
+        if !RECORD_ALONE.contains(&mistake) {
+            let name = format!("{mistake:?} in whole logs alone");
+            let wrong = Comparison::new(WrongWhole::new(mistake), &readers);
+            complaints.extend(must_be_found(&name, wrong, seed));
         }
     }
     complaints.extend(wrong_messages(&readers, seed));
     if complaints.is_empty() {
-        println!("{} mistakes about logs: each found", MISTAKES.len());
+        println!(
+            "{} mistakes about logs: each found, and {} of them in whole logs alone",
+            MISTAKES.len(),
+            MISTAKES.len() - RECORD_ALONE.len()
+        );
     }
     complaints
+}
+
+/// Prints what was found of a wrong variant; a complaint if it was nothing or something else.
+fn must_be_found(name: &str, mut wrong: Comparison<impl Arranger>, seed: u64) -> Option<String> {
+    match wrong.run(seed, WITHIN) {
+        Err(found) if found.starts_with("log: ") => {
+            println!("{name}: found, {found}");
+            None
+        }
+        found => Some(format!("{name}: expected \"log: \", found {found:?}")),
+    }
 }
 
 /// Messages that no device may take for a right one.

@@ -157,7 +157,12 @@ fn spoilt(random: &mut Random, length: usize) -> Vec<u8> {
     musician.phrases(length);
     musician.spoil();
     musician.phrases(length.min(30));
-    musician.log
+    let mut log = musician.log;
+    // At times a line does not end, behind what spoils the log or at it.
+    if random.one_in(4) {
+        log.truncate(log.len().saturating_sub(1 + random.below(5)));
+    }
+    log
 }
 
 fn list(random: &mut Random, length: usize) -> Vec<u8> {
@@ -273,7 +278,10 @@ pub fn fixed() -> impl Iterator<Item = Log> {
         line.push(b'\n');
         Log::whole(Kind::OneLine, by_number(), &line)
     });
-    of_orders.chain(of_lines)
+    // More lines than 16 bits can count.
+    let many = b"b,248\n".repeat(65_600);
+    let many = Log::whole(Kind::Longest, by_number(), &many);
+    of_orders.chain([many]).chain(of_lines)
 }
 
 /// What is given with each order: a right log, one of another form, a spoilt one and one that does not end.
@@ -346,7 +354,10 @@ fn lines() -> impl Iterator<Item = Vec<u8>> {
         "b,-1",
         "b,1e1",
     ];
+    // Right from a place on at which a line could be forgotten.
+    let late = [7, 8, 255, 256].map(|before| "0".repeat(before) + "b,144");
     let written = numbers.chain(zeros).chain(far.map(str::to_string));
+    let written = written.chain(late);
     let short = (0..=4u32).flat_map(|length| {
         let base = LETTERS.len();
         (0..base.pow(length)).map(move |number| {

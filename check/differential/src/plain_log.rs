@@ -266,6 +266,7 @@ mistakes! {
     OldBytesBehindTheCount,
     LineKeepsItsLastBytes,
     LineEmptiedAfterSevenBytes,
+    LineEmptiedAfter256Bytes,
     LineCountGoesOn,
     LineKeepsFiveBytes,
     LineNotKeptBehindANumber,
@@ -292,6 +293,49 @@ mistakes! {
     WholeTellsNoLine,
     WholeOnTheDeviceOfTheLog,
 }
+
+/// Mistakes that show in the record, in the answers to parts, beside another log or behind 2 to the power 32 lines, and not in
+/// what a log yields that is given whole.
+pub const RECORD_ALONE: [Mistake; 38] = [
+    Mistake::WrongOrderKept,
+    Mistake::WrongOrderLeavesP1,
+    Mistake::WrongOrderPlayed,
+    Mistake::WrongOrderAnsweredOnce,
+    Mistake::WrongOrderLinesNotKept,
+    Mistake::LinesInThirtyTwoBits,
+    Mistake::LinesWrap,
+    Mistake::StolenNotePlayed,
+    Mistake::Number11Played,
+    Mistake::MipPlayed,
+    Mistake::ReadingGoesOnBehindANumber,
+    Mistake::CountingGoesOnBehindANumber,
+    Mistake::LineOfTheNumberCounted,
+    Mistake::PartsAnswer0,
+    Mistake::PartsAnswerOnce,
+    Mistake::WrongBytesToldBeforeTheLineEnds,
+    Mistake::SpoiltToldBeforeTheLineEnds,
+    Mistake::LineNotEmptiedByANumber,
+    Mistake::OldBytesBehindTheCount,
+    Mistake::LineKeepsItsLastBytes,
+    Mistake::LineCountGoesOn,
+    Mistake::LineKeepsFiveBytes,
+    Mistake::LineNotKeptBehindANumber,
+    Mistake::LineNotEmptiedBehindANumber,
+    Mistake::EndEmptiesTheLine,
+    Mistake::EndLeavesItsNumber,
+    Mistake::EndCountsItsLine,
+    Mistake::EndBeginsAnew,
+    Mistake::BeginKeepsTheDevice,
+    Mistake::BeginKeepsMost,
+    Mistake::BeginKeepsLines,
+    Mistake::BeginKeepsTheNumber,
+    Mistake::BeginKeepsTheLine,
+    Mistake::BeginKeepsTheOrderOfAWrongOne,
+    Mistake::DeviceBehindANumberFresh,
+    Mistake::OrderZeroedByANumber,
+    Mistake::MostZeroedByANumber,
+    Mistake::WholeOnTheDeviceOfTheLog,
+];
 
 #[derive(Clone)]
 pub struct PlainLog {
@@ -1200,6 +1244,7 @@ impl PlainLog {
             Some(Mistake::WrongOrderLinesNotKept) if self.number == BAD_ORDER => return,
             Some(Mistake::LineNotEmptied) if self.line == self.old_line => self.line.clear(),
             Some(Mistake::LineEmptiedAfterSevenBytes) if self.line.len() == 7 => self.line.clear(),
+            Some(Mistake::LineEmptiedAfter256Bytes) if self.line.len() == 256 => self.line.clear(),
             _ => {}
         }
         self.line.push(byte);
@@ -1376,5 +1421,46 @@ impl Arranger for PlainLog {
             _ => {}
         }
         arranged_of(answer)
+    }
+}
+
+/// A log that is right in its parts, and wrong where it is given whole.
+pub struct WrongWhole {
+    right: PlainLog,
+    wrong: PlainLog,
+}
+
+impl WrongWhole {
+    pub fn new(mistake: Mistake) -> WrongWhole {
+        WrongWhole {
+            right: PlainLog::new(None),
+            wrong: PlainLog::new(Some(mistake)),
+        }
+    }
+}
+
+impl Arranger for WrongWhole {
+    fn begin(&mut self, order: &[u8]) -> Given<Option<Number>> {
+        self.right.begin(order)
+    }
+
+    fn part(&mut self, part: &[u8]) -> Given<Option<Number>> {
+        self.right.part(part)
+    }
+
+    fn end(&mut self) -> Given<Arranged> {
+        self.right.end()
+    }
+
+    fn record(&self) -> Given<LogRecord> {
+        self.right.record()
+    }
+
+    fn put_behind(&mut self, lines: u64) {
+        self.right.put_behind(lines);
+    }
+
+    fn whole(&self, order: &[u8], log: &[u8]) -> Given<Arranged> {
+        self.wrong.whole(order, log)
     }
 }
