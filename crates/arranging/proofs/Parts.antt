@@ -153,7 +153,7 @@ outcome-fresh order ds n none =
 -- ---- the claim, of every run in which no number fell
 
 -- behind a number nothing is looked at
-stays : (log : List ℕ) (s : Song) (l : Line) → eqb (s .number) 0 ≡ false → finished (heard (run s l) log) ≡ refused (s .number) (s .lines)
+pub stays : (log : List ℕ) (s : Song) (l : Line) → eqb (s .number) 0 ≡ false → finished (heard (run s l) log) ≡ refused (s .number) (s .lines)
 unfolding finished heard byteHeard linePlayed
 stays [] s l h = rw h
 stays (b ∷ log) s l h = go (eqb b 0x0A) (λ m. stays log s m h)
