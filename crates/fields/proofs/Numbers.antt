@@ -22,7 +22,7 @@ unfoldable pub at : ℕ → Bool → ℕ → ℕ → ℕ → Line
 at r d k s n = record { commas = r; digit = d; first = k; previous = s; last = kept n }
 
 -- a number that is kept as 99,999,999 stays that, whatever digit comes behind it
-kept-digit : (n d : ℕ) → withDigit (kept n) d ≡ kept (10 * n + d)
+pub kept-digit : (n d : ℕ) → withDigit (kept n) d ≡ kept (10 * n + d)
 kept-digit n d = go (ltb n 99999999) refl
   where
     go : (x : Bool) → ltb n 99999999 ≡ x → kept (10 * (if x then n else 99999999) + d) ≡ kept (10 * n + d)

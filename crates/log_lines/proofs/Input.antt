@@ -9,16 +9,17 @@ use native.Mathlib.Omega.{arith}
 use lib.Dec.{eqb}
 use lib.ListN.{length, take, drop, getD, drop-of-length-le, length-drop}
 use lib.Seq.{drop-cons, take-all}
-use borrow.Author.Tests.{eq-eqb, ne-eqb}
+use borrow.Author.Tests.{eq-eqb, ne-eqb, not-true}
 use Rattle.loops.specs.Cases.{if_then_else_}
+use Rattle.fields.proofs.Numbers.{both}
 use Rattle.arranging.specs.declared.Run.{Run}
 use Rattle.arranging.specs.declared.Written.{Written}
 use Rattle.arranging.specs.Arranging.{message}
 use Rattle.arranging.specs.Run.{joined, begun, byteHeard, heard, finished}
-use Rattle.arranging.proofs.Parts.{parts}
+use Rattle.arranging.proofs.Parts.{stays, parts}
 use Rattle.log_lines.specs.declared.OrderLine.{OrderLine}
 use Rattle.log_lines.specs.declared.Reading.{Reading}
-use Rattle.log_lines.specs.LogLines.{newOrder, orderByte, orderBytes, orderIn, reading, newReading, byteRead, bytesRead, ended, firstLine, behindFirst, arranged}
+use Rattle.log_lines.specs.LogLines.{newOrder, orderByte, orderBytes, orderIn, reading, newReading, byteRead, bytesRead, isKnown, ended, firstLine, behindFirst, arranged}
 
 -- ---- the bytes of a read
 
@@ -90,3 +91,12 @@ parts-read c (p ∷ ps) = parts-read (bytesRead c p) ps ∙ sym (read-append c p
 
 pub any-parts : (ps : List (List ℕ)) → ended (partsRead newReading ps) ≡ arranged (joined ps)
 any-parts ps = ap ended (parts-read newReading ps) ∙ input-read (joined ps)
+
+-- ---- a number has fallen
+
+pub known : (c : Reading) (bs : List ℕ) → isKnown c ≡ true → ended (bytesRead c bs) ≡ ended c
+unfolding isKnown ended heard
+known c bs e =
+    let p = both (c .ordered) (not (eqb (c .run .song .number) 0)) e in
+    let n = not-true (eqb (c .run .song .number) 0) (p .1) in
+    rw (in-log c bs (p .0), p .0) (stays bs (c .run .song) (c .run .line) n ∙ sym (stays [] (c .run .song) (c .run .line) n))

@@ -58,7 +58,7 @@ abbrev pub reading : Bool → OrderLine → Run → Reading
 reading ordered order run = record { ordered = ordered; order = order; run = run }
 
 abbrev pub newReading : Reading
-newReading = reading false newOrder (begun (replicate 16 0))
+newReading = reading false newOrder (begun [])
 
 -- 0AH ends the order's line, and what comes behind it is the log
 unfoldable pub byteRead : Reading → ℕ → Reading

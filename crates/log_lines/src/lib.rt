@@ -7,7 +7,7 @@ ghost use mathlib.Core.List.{_++_};
 ghost use lib.ListN.{length, take};
 ghost use Rattle.text.specs.Text.{Put};
 ghost use Rattle.arranging.specs.Run.{begun};
-ghost use Rattle.log_lines.specs.LogLines.{newOrder, lost, putAway, orderByte, lookedAt, orderIn, reading, newReading, bytesRead, ended, isKnown, messageOf, writtenLine};
+ghost use Rattle.log_lines.specs.LogLines.{lost, putAway, orderByte, lookedAt, orderIn, reading, newReading, bytesRead, ended, isKnown, messageOf, writtenLine};
 use arranging::Run;
 use arranging::Written;
 use fields::Line;
@@ -33,17 +33,6 @@ pub struct Reading {
 }
 
 // ---- the order's line
-
-fn begin_order() -> OrderLine
-    ensures { λ r. ⌜ r ≡ newOrder ⌝ }
-{
-    let number = fields::begin();
-    OrderLine {
-        number: number,
-        count: 0,
-        channels: [0; 16],
-    }
-}
 
 // A line that no byte makes an order any more.
 fn lose() -> OrderLine
@@ -118,9 +107,13 @@ fn begin_log(c: OrderLine) -> Run
 pub fn begin() -> Reading
     ensures { λ r. ⌜ r ≡ newReading ⌝ }
 {
-    let order = begin_order();
-    let none = [0u8; 16];
-    let run = arranging::begin(&none);
+    let number = fields::begin();
+    let order = OrderLine {
+        number: number,
+        count: 0,
+        channels: [0; 16],
+    };
+    let run = arranging::begin(b"");
     Reading {
         ordered: false,
         order: order,
@@ -158,11 +151,9 @@ pub fn all(c: Reading, bytes: &[u8]) -> Reading
         let after = next(order, b);
         order = after;
     }
-    Reading {
-        ordered: false,
-        order: order,
-        run: run,
-    }
+    let mut kept = c;
+    kept.order = order;
+    kept
 }
 
 // A number has fallen: whatever comes behind it, the answer is known.
@@ -178,10 +169,10 @@ pub fn is_known(c: Reading) -> bool
 pub fn end(c: Reading) -> Written
     ensures { λ r. ⌜ r ≡ ended c ⌝ }
 {
-    if c.ordered {
-        return arranging::end(c.run);
+    if !c.ordered {
+        return arranging::end(begin_log(c.order));
     }
-    arranging::end(begin_log(c.order))
+    arranging::end(c.run)
 }
 
 // ---- the answer

@@ -2,7 +2,7 @@
 -- Assumes nothing.
 use Prim.Native.Nat.{_+_, _-_, _≤_}
 use mathlib.Core.Path.{_≡_, refl, sym, ap, _∙_}
-use mathlib.Core.Bool.{true, false}
+use mathlib.Core.Bool.{Bool, true, false}
 use native.Mathlib.Omega.{arith}
 use lib.ListN.{length, take, drop}
 use Rattle.arranging.specs.declared.Run.{Run}
@@ -15,10 +15,10 @@ use Rattle.log_lines.proofs.all.Statement.{statement}
 use Rattle.log_lines.proofs.all.Tie as tie
 
 abbrev Inv-loop : tie.InvT-loop
-Inv-loop bytes run order₀ i₀ order i = (i ≤ length bytes) × (bytesRead (reading false order run) (drop i bytes) ≡ bytesRead (reading false order₀ run) bytes)
+Inv-loop c bytes order₀ i₀ order i = (i ≤ length bytes) × (bytesRead (reading false order (c .run)) (drop i bytes) ≡ bytesRead (reading false order₀ (c .run)) bytes)
 
 abbrev μ-loop : tie.MeasureT-loop
-μ-loop bytes run order₀ i₀ order i = length bytes - i
+μ-loop c bytes order₀ i₀ order i = length bytes - i
 
 take-requires : tie.Need-take-requires Inv-loop μ-loop
 take-requires c κs = search needs
@@ -88,7 +88,8 @@ returns-3 : tie.Need-returns-3 Inv-loop μ-loop
 returns-3 c =
     let l = c .before .loop in
     let a = c .before .before .before .before .before .before .args in
-    sym (no-more (a .bytes .now) (l .i) (reading false (l .order) (a .c .run)) (c .loop-test .left)) ∙ l .inv .1 ∙ sym (in-order (a .c) (a .bytes .now) (c .before .before .before .if1 .left))
+    let e = c .before .before .before .if1 .left in
+    ap (λ (x : Bool). reading x (l .order) (a .c .run)) e ∙ sym (no-more (a .bytes .now) (l .i) (reading false (l .order) (a .c .run)) (c .loop-test .left)) ∙ l .inv .1 ∙ sym (in-order (a .c) (a .bytes .now) e)
 
 pub all-spec : {M : Type 1} → statement M
 all-spec = tie.close (tie.spec Inv-loop μ-loop take-requires in-log-requires returns loop-holds shared-slice-read-b add-i begin-log-requires sub-take part-take-start part-take-end take-requires-2 in-log-requires-2 returns-2 next-requires loop-less loop-again returns-3)
