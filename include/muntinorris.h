@@ -1,16 +1,18 @@
 /*
  * Muntinorris: the note allocator of a scalable polyphony module, for C and C++.
  *
- * Who owns what. The caller owns the record, struct muntinorris_device, and keeps it in any memory: static, automatic or allocated. The library has no state of its
- * own, allocates nothing, keeps no pointer after a call returns, and writes nothing but the record or the buffer that it is lent. A record may be copied by
- * assignment; the copy is a device of its own.
+ * Who owns what. The caller owns the records, struct muntinorris_device and struct muntinorris_log, and keeps them in any memory: static, automatic or allocated. The library has no state
+ * of its own, allocates nothing, keeps no pointer after a call returns, and writes nothing but the record or the buffer that it is lent. A record may be copied by
+ * assignment; the copy is a device, or a log, of its own.
  *
- * Calls. muntinorris_start makes the record, whatever the memory held before. Every other call that is lent the record wants one that a start made and that only these
- * calls have written since; on a record with other contents it still returns, and touches no memory but the record, but the answer means nothing. (A pitch, gains by their
- * numbers and a song need no record; the gains of a channel mean what they say for any eleven bytes.) One record is used by one thread at a time; two records never touch each other.
+ * Calls. muntinorris_start makes the record of a device and muntinorris_log_begin that of a log, whatever the memory held before. Every other call that is lent a record wants one that
+ * was made so and that only these calls have written since; on a record with other contents it still returns, and touches no memory but the record, but the answer means nothing. (A
+ * pitch, gains by their numbers, a song and the message of a whole log need no record; the gains of a channel mean what they say for any eleven bytes.) One record is used by one thread
+ * at a time; two records never touch each other.
  *
- * A NULL or misaligned pointer, or one to less memory than the struct or the length that is lent, is the caller's error and is not tested for. (The record is made of bytes alone, so its
- * alignment is 1 and every address is aligned for it.)
+ * A NULL or misaligned pointer, or one to less memory than the struct or the length that is lent, is the caller's error and is not tested for, and so are bytes that are lent to be read
+ * out of the record or the buffer that the same call writes; with length 0 the pointer to bytes is not looked at. (The record of a device is made of bytes alone, so its alignment is 1 and
+ * every address is aligned for it. That of a log holds a uint64_t and has its alignment: 8 on x86-64.)
  *
  * Channels are 1 to 16, as musicians count them; the wire carries channel minus 1. "Document 01" is the specification, "The note allocator of a scalable
  * polyphony module", "document 02" the changes to it that were asked for. Every call is proved to give exactly the answer and the record of its definition, for
@@ -54,6 +56,9 @@ extern "C" {
 #define MUNTINORRIS_NO_SUCH_GENERATOR 12 /* report or query: the generator's number is the polyphony or above. No change */
 #define MUNTINORRIS_ALREADY_IDLE 13      /* report: the generator is idle. No change */
 #define MUNTINORRIS_NO_SUCH_CHANNEL 14   /* mask or share query: the channel is not 1 to 16. No change */
+#define MUNTINORRIS_LOG_OTHER_FORM 15    /* log: a line is of another form. The record of the log is as it was before that line, which is counted; 38 zeros for the message, as with 16 and 17 */
+#define MUNTINORRIS_BAD_ORDER 16         /* log: the order is not all sixteen channels once; the log is not looked at. A fresh device of polyphony 64 and own ID 0, and zeros */
+#define MUNTINORRIS_LOG_SPOILT 17        /* log: at a line a MIP message for device 7F or 0 ends, accepted or not, a note is stolen or number 11 falls. As 15: the device has not played the line */
 #define MUNTINORRIS_BAD_PITCH 21         /* pitch: key above 127, sensitivity above 24 or bend above 16383. Entry 65536 and octave 0 */
 #define MUNTINORRIS_BAD_LEVEL 24         /* gains: expression, volume or pan above 127. Both gains 0 */
 #define MUNTINORRIS_SONG_TOO_LONG 25     /* song: above 65,536 bytes or longer than the buffer, and the polyphony is 1 to 64. The buffer is untouched */
@@ -114,6 +119,16 @@ struct muntinorris_gains_answer {
 struct muntinorris_song_answer {
     uint32_t thefts;
     uint8_t number;
+};
+
+/*
+ * The message of a log: F0 7F 7F 0B 01, then for each channel of the order the channel minus 1 and its value, then F7. number is 0, or 15, 16 or 17, and then bytes are 38 zeros.
+ * (One byte of padding behind bytes.)
+ */
+struct muntinorris_mip_answer {
+    uint64_t line; /* the last line that was looked at, from 1: where the number fell, or with number 0 how many there are; 0 with 16. (Above 2^64 - 1 as that.) */
+    uint8_t number;
+    uint8_t bytes[38];
 };
 
 /* ---- the record ---- */
@@ -187,6 +202,35 @@ struct muntinorris_device {
     struct muntinorris_instrument instrument;
 };
 
+/* ---- the record of a log ---- */
+
+/* The line that is not ended: its first seven bytes, and how many of these there are; the other places are 0. (No line of an event has more than six.) */
+struct muntinorris_log_line {
+    uint8_t count;
+    uint8_t bytes[7];
+};
+
+/*
+ * The log up to its last 0AH. Where a number has fallen, device, order and most are as they were before the line that it fell at, and nothing behind that line is looked at; with 16 the
+ * device is fresh and the rest zeros. (Where uint64_t has alignment 8: 5 bytes of padding before lines and 7 behind number, 560 bytes.)
+ */
+struct muntinorris_logged {
+    struct muntinorris_device device; /* polyphony 64, own ID 0, after the lines so far */
+    uint8_t order[16];                /* the channels, 1 to 16, by falling priority; zeros where the order was refused */
+    uint8_t most[16];                 /* for each place of the order: the largest number of busy generators, after a line so far, on the channels up to it */
+    uint64_t lines;                   /* lines looked at so far, the one that a number fell at included. (Above 2^64 - 1 as that.) */
+    uint8_t number;                   /* 0, or 15, 16 or 17, the number that fell */
+};
+
+/*
+ * A log as far as it was given, 568 bytes where uint64_t has alignment 8. Anyone may read it; only the calls below write it. What stands in the padding is not said: compare two logs field
+ * by field. A byte of the log goes into line, which each 0AH empties; so it does behind a number too, and changes nothing else there.
+ */
+struct muntinorris_log {
+    struct muntinorris_logged song;
+    struct muntinorris_log_line line;
+};
+
 /* ---- calls ---- */
 
 /* Makes the record a fresh device: MUNTINORRIS_DONE, or number 1 or 2, after which it is a working device of polyphony 1 and own ID 0. */
@@ -232,6 +276,30 @@ struct muntinorris_gains_answer muntinorris_channel_gains(const struct muntinorr
  * without reports no n bytes make more, whatever they are. It takes some 6 KB of stack (x86-64). The song is 90H, and then for j = 0, 1, 2, .. key j mod 128 and velocity 64. Number 1, else 25.
  */
 struct muntinorris_song_answer muntinorris_write_song(uint8_t polyphony, size_t n, uint8_t *song, size_t length);
+
+/*
+ * The MIP message of a song, from its log and an order of all sixteen channels, 1 to 16, by falling priority. A line of the log is a MIDI byte, `b,` and 0 to 255, or the report of a generator,
+ * `e,` and 0 to 63, in decimal without leading zeros (`b,144`, `e,7`), and ends with 0AH. The log is played on a fresh device of polyphony 64 and own ID 0; what that answers with a number
+ * below 11 or with 13 is passed over. The value of a channel is the largest number of generators that were busy together, after some line, on it and the channels before it in the order.
+ *
+ * Begins a log with this order of n channels, and makes its record: 0, or number 16. The caller owns the record and lends it to this call and to the two below; the order is lent for this call.
+ */
+uint8_t muntinorris_log_begin(struct muntinorris_log *log, const uint8_t *order, size_t n);
+
+/*
+ * One part more of the log, of any length (0 too), cut anywhere, inside a line as well: the log may be longer than memory. Answers the number that has fallen so far, 15, 16 or 17, or 0;
+ * behind a number nothing is looked at any more, and no further part is needed. The part is lent for the call. It takes some 11 KB of stack (x86-64).
+ */
+uint8_t muntinorris_log_part(struct muntinorris_log *log, const uint8_t *part, size_t n);
+
+/*
+ * The message of the log as far as it was given: however it was cut, the one that muntinorris_mip_from_log gives for all its parts together. A last line without 0AH is of another form, number
+ * 15; an empty log is right, and all its values are 0. The record is read and not changed: the log may be gone on with.
+ */
+struct muntinorris_mip_answer muntinorris_log_end(const struct muntinorris_log *log);
+
+/* All in one: the order of n channels, and the whole log of length bytes. Number 16 before 15 and 17; of these the earlier line decides. It takes some 11 KB of stack (x86-64). */
+struct muntinorris_mip_answer muntinorris_mip_from_log(const uint8_t *order, size_t n, const uint8_t *log, size_t length);
 
 #ifdef __cplusplus
 }

@@ -4,6 +4,7 @@
  *   - after a call the memory is what it was but for the fields that document 01 names, each at the header's place;
  *   - a value put at the header's place is what the next call reads;
  *   - each number, state and answer comes under the header's name for it.
+ * So it does with the record of a log, whose padding is passed over.
  * tests/c_and_rust compiles and runs it. With the word `print` it writes each struct's size and each field's place and size instead, for the Rust crate to be held against.
  */
 #include <stdarg.h>
@@ -396,6 +397,169 @@ static void songs(void)
     check(a.thefts == 0 && a.number == 0, "a song of no byte");
 }
 
+/* ---- the record of a log, in memory of its alignment ---- */
+
+static union {
+    uint64_t aligned;
+    unsigned char bytes[MARGIN + sizeof(struct muntinorris_log) + MARGIN];
+} log_memory;
+static struct muntinorris_log *const lent = (struct muntinorris_log *)(log_memory.bytes + MARGIN);
+static struct muntinorris_log logged; /* what the record must be after the next call, by the header */
+static const uint8_t order[16] = {10, 16, 1, 2, 3, 4, 5, 6, 7, 8, 9, 11, 12, 13, 14, 15};
+static const uint8_t zeros[38];
+
+static void fill_log(unsigned char pattern)
+{
+    memset(log_memory.bytes, pattern, sizeof log_memory.bytes);
+}
+
+/* The record is what is wanted, field by field, and the memory beside it still holds the pattern. */
+static int is_logged(unsigned char pattern)
+{
+    size_t i;
+
+    for (i = 0; i < MARGIN; i++)
+        if (log_memory.bytes[i] != pattern || log_memory.bytes[MARGIN + sizeof(struct muntinorris_log) + i] != pattern)
+            return 0;
+    return memcmp(&lent->song.device, &logged.song.device, sizeof lent->song.device) == 0 && memcmp(lent->song.order, logged.song.order, sizeof logged.song.order) == 0 &&
+           memcmp(lent->song.most, logged.song.most, sizeof logged.song.most) == 0 && lent->song.lines == logged.song.lines && lent->song.number == logged.song.number &&
+           lent->line.count == logged.line.count && memcmp(lent->line.bytes, logged.line.bytes, sizeof logged.line.bytes) == 0;
+}
+
+static void line_is(const char *text)
+{
+    memset(&logged.line, 0, sizeof logged.line);
+    logged.line.count = strlen(text);
+    memcpy(logged.line.bytes, text, strlen(text));
+}
+
+/* A part of the log, which answers this number and leaves the record that is wanted. */
+static void part(const char *text, unsigned number, const char *what)
+{
+    check(muntinorris_log_part(lent, (const uint8_t *)text, strlen(text)) == number && is_logged(0xA5), what);
+}
+
+static int is_refused(struct muntinorris_mip_answer a, unsigned number, uint64_t line)
+{
+    return a.number == number && a.line == line && memcmp(a.bytes, zeros, sizeof zeros) == 0;
+}
+
+/* The message whose values are those of the record that is wanted. */
+static int is_message(struct muntinorris_mip_answer a, uint64_t line)
+{
+    static const uint8_t head[] = {0xF0, 0x7F, 0x7F, 0x0B, 0x01};
+    unsigned k;
+
+    for (k = 0; k < 16; k++)
+        if (a.bytes[5 + 2 * k] != logged.song.order[k] - 1 || a.bytes[6 + 2 * k] != logged.song.most[k])
+            return 0;
+    return a.number == 0 && a.line == line && memcmp(a.bytes, head, sizeof head) == 0 && a.bytes[37] == 0xF7;
+}
+
+static struct muntinorris_mip_answer whole(const char *text)
+{
+    return muntinorris_mip_from_log(order, sizeof order, (const uint8_t *)text, strlen(text));
+}
+
+static void log_begins(void)
+{
+    static const unsigned char patterns[] = {0x00, 0xFF, 0xA5};
+    unsigned i;
+
+    memset(&logged, 0, sizeof logged);
+    muntinorris_start(&logged.song.device, 64, 0);
+    logged.song.number = MUNTINORRIS_BAD_ORDER;
+    for (i = 0; i < sizeof patterns; i++) {
+        fill_log(patterns[i]);
+        check(muntinorris_log_begin(lent, order, 15) == MUNTINORRIS_BAD_ORDER && is_logged(patterns[i]), "number 16 for fifteen channels");
+    }
+    line_is("x");
+    part("b,1\nx", MUNTINORRIS_BAD_ORDER, "a part behind number 16");
+    check(is_refused(muntinorris_log_end(lent), MUNTINORRIS_BAD_ORDER, 0), "the end behind number 16");
+}
+
+/* A log in parts, by what each leaves in the record; then each number, and parts behind one. */
+static void log_parts(void)
+{
+    unsigned k;
+
+    memcpy(logged.song.order, order, sizeof order);
+    logged.song.number = 0;
+    line_is("");
+    check(muntinorris_log_begin(lent, order, sizeof order) == 0 && is_logged(0xA5), "order, and a log that is begun");
+    check(is_message(muntinorris_log_end(lent), 0), "the message of no line");
+    line_is("b,1");
+    part("b,1", 0, "line.count and line.bytes");
+    check(is_refused(muntinorris_log_end(lent), MUNTINORRIS_LOG_OTHER_FORM, 1) && is_logged(0xA5), "the end in a line");
+    line_is("");
+    logged.song.lines = 1;
+    muntinorris_byte(&logged.song.device, 159);
+    part("59\n", 0, "lines, and the device after a line");
+    logged.song.lines = 3;
+    muntinorris_byte(&logged.song.device, 60);
+    muntinorris_byte(&logged.song.device, 64);
+    for (k = 1; k < 16; k++)
+        logged.song.most[k] = 1;
+    part("b,60\nb,64\n", 0, "most, where channel 16 is second");
+    part("", 0, "a part of no byte");
+    check(muntinorris_log_part(lent, NULL, 0) == 0 && is_logged(0xA5), "a part of no byte in no memory");
+    check(is_message(muntinorris_log_end(lent), 3) && is_logged(0xA5), "the message, and a record that it does not change");
+    check(is_message(whole("b,159\nb,60\nb,64\n"), 3), "the message of a whole log");
+    logged.song.lines = 4;
+    muntinorris_report(&logged.song.device, 0);
+    part("e,0\n", 0, "a report");
+    logged.song.lines = 5;
+    logged.song.number = MUNTINORRIS_LOG_OTHER_FORM;
+    line_is("b,12345");
+    part("b,256\nb,123456789", MUNTINORRIS_LOG_OTHER_FORM, "number 15, and a long line behind it");
+    check(is_refused(muntinorris_log_end(lent), MUNTINORRIS_LOG_OTHER_FORM, 5), "the end behind number 15");
+    line_is("");
+    part("\ne,63\n", MUNTINORRIS_LOG_OTHER_FORM, "lines behind number 15");
+    /* 17: the F7 is not played */
+    memset(&logged, 0, sizeof logged);
+    muntinorris_start(&logged.song.device, 64, 0);
+    memcpy(logged.song.order, order, sizeof order);
+    logged.song.lines = 6;
+    logged.song.number = MUNTINORRIS_LOG_SPOILT;
+    muntinorris_byte(&logged.song.device, 0xF0);
+    muntinorris_byte(&logged.song.device, 0x7F);
+    muntinorris_byte(&logged.song.device, 0x00);
+    muntinorris_byte(&logged.song.device, 0x0B);
+    muntinorris_byte(&logged.song.device, 0x01);
+    check(muntinorris_log_begin(lent, order, sizeof order) == 0, "a log begun again");
+    part("b,240\nb,127\nb,0\nb,11\nb,1\nb,247\nb,0\n", MUNTINORRIS_LOG_SPOILT, "number 17");
+    check(is_refused(muntinorris_log_end(lent), MUNTINORRIS_LOG_SPOILT, 6), "the end behind number 17");
+    check(is_refused(whole("b,240\nb,127\nb,127\nb,11\nb,1\nb,247\nb\n"), MUNTINORRIS_LOG_SPOILT, 6), "number 17 of a whole log");
+    check(is_refused(whole("b,0\nx\n"), MUNTINORRIS_LOG_OTHER_FORM, 2), "number 15 of a whole log");
+    check(is_refused(muntinorris_mip_from_log(NULL, 0, NULL, 0), MUNTINORRIS_BAD_ORDER, 0), "number 16 of a whole log, in no memory");
+}
+
+/* What is put at the header's places is what the calls read. */
+static void log_is_read(void)
+{
+    unsigned k;
+
+    fill_log(0xA5);
+    muntinorris_log_begin(lent, order, sizeof order);
+    for (k = 0; k < 16; k++) {
+        lent->song.order[k] = logged.song.order[k] = 100 + k;
+        lent->song.most[k] = logged.song.most[k] = 200 + k;
+    }
+    lent->song.lines = 0x0102030405060708;
+    check(is_message(muntinorris_log_end(lent), 0x0102030405060708), "order, most and lines are read");
+    lent->line.count = 1;
+    check(is_refused(muntinorris_log_end(lent), MUNTINORRIS_LOG_OTHER_FORM, 0x0102030405060709), "line.count is read");
+    lent->song.number = 99;
+    check(is_refused(muntinorris_log_end(lent), 99, 0x0102030405060708), "number is read");
+    check(muntinorris_log_part(lent, NULL, 0) == 99, "number is answered");
+    /* `b,6` and `0` is the key of a note whose status the device has */
+    muntinorris_log_begin(lent, order, sizeof order);
+    lent->song.device.parser.status = 0x99;
+    lent->line.count = 3;
+    memcpy(lent->line.bytes, "b,6", 3);
+    check(muntinorris_log_part(lent, (const uint8_t *)"0\nb,64\n", 7) == 0 && lent->song.most[0] == 1 && lent->song.device.instrument.generators.key[0] == 60, "device and line.bytes are read");
+}
+
 /* Of each struct its size, then of each field its place and size; the fields must fill it, so that none is left out here. */
 static size_t unlisted;
 #define STRUCT(s) (check(unlisted == 0, "every field of the struct before " #s " is listed"), unlisted = sizeof(struct muntinorris_##s), line("%s %u\n", #s, (unsigned)unlisted))
@@ -433,6 +597,10 @@ static void layout(void)
     STRUCT(pitch_answer), FIELD(pitch_answer, entry), FIELD(pitch_answer, octave), FIELD(pitch_answer, number), unlisted -= 2; /* padding */
     STRUCT(gains_answer), FIELD(gains_answer, left), FIELD(gains_answer, right), FIELD(gains_answer, number), unlisted -= 3; /* padding */
     STRUCT(song_answer), FIELD(song_answer, thefts), FIELD(song_answer, number), unlisted -= 3; /* padding */
+    STRUCT(mip_answer), FIELD(mip_answer, line), FIELD(mip_answer, number), FIELD(mip_answer, bytes), unlisted -= 1; /* padding */
+    STRUCT(log), FIELD(log, song), FIELD(log, line);
+    STRUCT(logged), FIELD(logged, device), FIELD(logged, order), FIELD(logged, most), FIELD(logged, lines), FIELD(logged, number), unlisted -= 12; /* padding */
+    STRUCT(log_line), FIELD(log_line, count), FIELD(log_line, bytes);
     check(unlisted == 0, "every field of the last struct is listed");
 }
 
@@ -453,7 +621,10 @@ int main(int argc, char **argv)
     pitches();
     gains();
     songs();
+    log_begins();
+    log_parts();
+    log_is_read();
     if (failures == 0)
-        printf("the record of %u bytes is the library's\n", (unsigned)sizeof(struct muntinorris_device));
+        printf("the record of %u bytes and that of a log, of %u, are the library's\n", (unsigned)sizeof(struct muntinorris_device), (unsigned)sizeof(struct muntinorris_log));
     return failures != 0;
 }

@@ -17,6 +17,10 @@ struct muntinorris_pitch_answer right_pitch(uint8_t key, uint8_t sensitivity, ui
 struct muntinorris_gains_answer right_gains(uint8_t expression, uint8_t volume, uint8_t pan);
 struct muntinorris_gains_answer right_channel_gains(const struct muntinorris_channel *channel);
 struct muntinorris_song_answer right_write_song(uint8_t polyphony, size_t n, uint8_t *song, size_t length);
+uint8_t right_log_begin(struct muntinorris_log *log, const uint8_t *order, size_t n);
+uint8_t right_log_part(struct muntinorris_log *log, const uint8_t *part, size_t n);
+struct muntinorris_mip_answer right_log_end(const struct muntinorris_log *log);
+struct muntinorris_mip_answer right_mip_from_log(const uint8_t *order, size_t n, const uint8_t *log, size_t length);
 
 static unsigned long calls;
 
@@ -168,6 +172,63 @@ struct muntinorris_song_answer muntinorris_write_song(uint8_t polyphony, size_t 
     if (a.number != 0 && at >= 0 && (size_t)at < length && is_meant(a.number == 1 ? "buffer of a song of a wrong P" : "buffer of a song too long"))
         change(song);
     if (is_meant(a.number == 0 ? "song" : a.number == 1 ? "song of a wrong P" : "song too long"))
+        change(&a);
+    return a;
+}
+
+/* Something that is only lent for reading, if it is long enough. */
+static void write_lent(const char *word, const uint8_t *bytes, size_t n)
+{
+    long at = getenv("AT") ? atol(getenv("AT")) : 0;
+
+    if (at >= 0 && (size_t)at < n && is_meant(word))
+        change((void *)bytes);
+}
+
+/* As a pitch: a log has a record, but what is wrong in it shows at once. */
+uint8_t muntinorris_log_begin(struct muntinorris_log *log, const uint8_t *order, size_t n)
+{
+    uint8_t number = right_log_begin(log, order, n);
+
+    write_lent("written order", order, n);
+    if (is_meant("begun log"))
+        change(log);
+    if (is_meant(number == 0 ? "log begin" : "refused log begin"))
+        change(&number);
+    return number;
+}
+
+/* No log of ours has a polyphony above 64. */
+uint8_t muntinorris_log_part(struct muntinorris_log *log, const uint8_t *part, size_t n)
+{
+    uint8_t number = right_log_part(log, part, n);
+
+    write_lent("written part", part, n);
+    if (is_meant("read log") || (number != 0 && is_meant("read refused log")) || (is_meant("rubbish log") && log->song.device.instrument.polyphony > 64))
+        change(log);
+    if (is_meant(number == 0 ? "log part" : "refused log part"))
+        change(&number);
+    return number;
+}
+
+struct muntinorris_mip_answer muntinorris_log_end(const struct muntinorris_log *log)
+{
+    struct muntinorris_mip_answer a = right_log_end(log);
+
+    if (is_meant("ended log"))
+        change((void *)log);
+    if (is_meant(a.number == 0 ? "log end" : "refused log end"))
+        change(&a);
+    return a;
+}
+
+struct muntinorris_mip_answer muntinorris_mip_from_log(const uint8_t *order, size_t n, const uint8_t *log, size_t length)
+{
+    struct muntinorris_mip_answer a = right_mip_from_log(order, n, log, length);
+
+    write_lent("written order of a whole log", order, n);
+    write_lent("written whole log", log, length);
+    if (is_meant(a.number == 0 ? "mip from log" : "refused mip from log"))
         change(&a);
     return a;
 }

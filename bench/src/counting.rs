@@ -22,9 +22,9 @@ enum Target {
     Pitch,
     /// Gains at most 120.
     Gains,
-    /// Nothing, as for a refused pitch or song.
+    /// Nothing, as for a refused pitch or song, or a line of a log.
     None,
-    /// The mean over a stream or a song.
+    /// The mean over a stream, a song or a log.
     Mean,
 }
 
@@ -355,6 +355,77 @@ pub fn run_songs<S: Subject>() {
         bench_mark();
         print_line(name, n, target);
     }
+}
+
+/// Logs, in a run of their own as songs are.
+pub fn run_logs<S: Subject>() {
+    let mut order: [u8; 16] = std::array::from_fn(|i| i as u8 + 1);
+    bench_mark();
+    black_box(S::log_begin(black_box(&mut order)));
+    bench_mark();
+    print_line("log, begin", 1, Target::None);
+    for (name, setup, line) in log_lines() {
+        let mut log = S::log_begin(&mut order);
+        assert!(S::log_part(&mut log, &mut lines(&setup)), "a number fell");
+        let mut part = line.as_bytes().to_vec();
+        bench_mark();
+        black_box(S::log_part(&mut log, black_box(&mut part)));
+        bench_mark();
+        print_line(name, 1, Target::None);
+    }
+    count_chords::<S>();
+}
+
+/// A log of chords in one part, and its end.
+fn count_chords<S: Subject>() {
+    let mut chords = streams::chords();
+    let mut log = S::log_begin(&mut chords.order);
+    bench_mark();
+    black_box(S::log_part(&mut log, black_box(&mut chords.bytes)));
+    bench_mark();
+    print_line(
+        "mean of a log of chords, a line",
+        chords.lines,
+        Target::Mean,
+    );
+    bench_mark();
+    black_box(S::log_end(&mut log));
+    bench_mark();
+    print_line("log, end", 1, Target::None);
+}
+
+/// The lines that are counted, each behind the bytes that came before.
+fn log_lines() -> [(&'static str, Vec<u8>, &'static str); 7] {
+    let full = all_of_channel_1();
+    let all_but_one = full[..full.len() - 2].to_vec();
+    let mip = open_mip([(0, 64)]);
+    [
+        ("log line, status byte", vec![], "b,144\n"),
+        ("log line, first data byte", vec![0x90], "b,60\n"),
+        (
+            "log line, note-on's last byte, first generator",
+            vec![0x90, 60],
+            "b,64\n",
+        ),
+        (
+            "log line, note-on's last byte, last generator",
+            followed(all_but_one, &[100]),
+            "b,64\n",
+        ),
+        (
+            "log line, report of the oldest of 64",
+            full.clone(),
+            "e,0\n",
+        ),
+        ("log line, number 15", vec![], "b,256\n"),
+        ("log line, number 17 by a MIP message", mip, "b,247\n"),
+    ]
+}
+
+/// A line for each byte.
+fn lines(bytes: &[u8]) -> Vec<u8> {
+    let line = |byte: &u8| format!("b,{byte}\n").into_bytes();
+    bytes.iter().flat_map(line).collect()
 }
 
 /// So many random cases are counted for the dearest of their kind.

@@ -1,4 +1,4 @@
-//! The streams, and the pitches and gains, that both implementations are timed on.
+//! The streams, the pitches and gains, and the log, that both implementations are timed on.
 
 use random::Random;
 
@@ -60,6 +60,66 @@ pub fn mip(pairs: impl IntoIterator<Item = (u8, u8)>) -> Vec<u8> {
     bytes.extend(pairs.into_iter().flat_map(|(mm, vv)| [mm, vv]));
     bytes.push(0xF7);
     bytes
+}
+
+/// The log of a song.
+pub struct Log {
+    pub order: [u8; 16],
+    pub bytes: Vec<u8>,
+    pub lines: usize,
+}
+
+/// Chords of three notes on sixteen channels in turn. A channel lets its chord go before it plays the next; drums end by
+/// reports. No note is lost, so that every line is played.
+pub fn chords() -> Log {
+    let mut log = Log {
+        order: [10, 1, 2, 3, 4, 5, 6, 7, 8, 9, 11, 12, 13, 14, 15, 16],
+        bytes: Vec::new(),
+        lines: 0,
+    };
+    // It plays along and says which generators the drums have.
+    let (mut device, _) = paper::Device::start(64, 0);
+    let mut drums = Vec::new();
+    for turn in 0.. {
+        if log.lines >= LENGTH {
+            break;
+        }
+        let channel = (turn % 16) as u8;
+        let mut bytes = vec![0x90 | channel];
+        if channel == DRUM_CHANNEL {
+            for generator in drums.drain(..) {
+                device.report(generator);
+                log.line('e', generator);
+            }
+        } else if turn >= 16 {
+            bytes.extend(chord(turn - 16).into_iter().flat_map(|key| [key, 0]));
+        }
+        bytes.extend(chord(turn).into_iter().flat_map(|key| [key, 64]));
+        for byte in bytes {
+            log.line('b', byte);
+            if let paper::Answer::Note {
+                channel: 10,
+                generator,
+                ..
+            } = device.byte(byte)
+            {
+                drums.push(generator);
+            }
+        }
+    }
+    log
+}
+
+/// The keys of a turn's chord; a channel has another one each time.
+fn chord(turn: usize) -> [u8; 3] {
+    [0, 4, 7].map(|step| (12 + (turn / 16 * 5 + step) % 24) as u8)
+}
+
+impl Log {
+    fn line(&mut self, letter: char, number: u8) {
+        self.bytes.extend(format!("{letter},{number}\n").bytes());
+        self.lines += 1;
+    }
 }
 
 /// Writes messages with running status.

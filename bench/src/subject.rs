@@ -1,5 +1,5 @@
-//! What is measured: an implementation that takes bytes and reports, gives pitches and gains and writes songs through calls
-//! that are not inlined, so that both sides pay for a call.
+//! What is measured: an implementation that takes bytes and reports, gives pitches and gains, writes songs and reads logs
+//! through calls that are not inlined, so that both sides pay for a call.
 
 /// An implementation with its answers reduced to what the measurement needs.
 pub trait Subject: Clone {
@@ -15,6 +15,13 @@ pub trait Subject: Clone {
     fn channel_gains(&self, channel: usize) -> (f32, f32);
     /// Writes the hardest song of n bytes; its thefts, 0 if it is refused.
     fn write_song(polyphony: u8, n: usize, buffer: &mut [u8]) -> u32;
+    /// A log under way.
+    type Log: Clone;
+    fn log_begin(order: &mut [u8]) -> Self::Log;
+    /// Takes a part; true if no number has fallen. It is lent as the other calls lend it, and not written.
+    fn log_part(log: &mut Self::Log, part: &mut [u8]) -> bool;
+    /// The message of a log, zeros if a number has fallen.
+    fn log_end(log: &mut Self::Log) -> [u8; 38];
 }
 
 #[derive(Clone)]
@@ -59,6 +66,25 @@ impl Subject for Proved {
     fn write_song(polyphony: u8, n: usize, buffer: &mut [u8]) -> u32 {
         proved::write_song(polyphony, n, buffer).thefts
     }
+
+    type Log = proved::LogMemory;
+
+    #[inline]
+    fn log_begin(order: &mut [u8]) -> proved::LogMemory {
+        let mut log = proved::LogMemory([0; proved::LOG_BYTES]);
+        log.begin(order);
+        log
+    }
+
+    #[inline]
+    fn log_part(log: &mut proved::LogMemory, part: &mut [u8]) -> bool {
+        log.part(part) == 0
+    }
+
+    #[inline]
+    fn log_end(log: &mut proved::LogMemory) -> [u8; 38] {
+        log.end().bytes
+    }
 }
 
 #[derive(Clone)]
@@ -101,6 +127,24 @@ fn paper_write_song(polyphony: u8, n: usize, buffer: &mut [u8]) -> Result<u32, p
     paper::write_song(polyphony, n, buffer)
 }
 
+#[no_mangle]
+#[inline(never)]
+fn paper_log_begin(order: &[u8]) -> paper::Log {
+    paper::Log::begin(order)
+}
+
+#[no_mangle]
+#[inline(never)]
+fn paper_log_part(log: &mut paper::Log, part: &[u8]) -> Option<paper::Number> {
+    log.part(part)
+}
+
+#[no_mangle]
+#[inline(never)]
+fn paper_log_end(log: &paper::Log) -> paper::Arranged {
+    log.end()
+}
+
 impl Subject for Paper {
     fn start(polyphony: u8) -> Paper {
         Paper(paper::Device::start(polyphony, 0).0)
@@ -138,5 +182,21 @@ impl Subject for Paper {
     #[inline]
     fn write_song(polyphony: u8, n: usize, buffer: &mut [u8]) -> u32 {
         paper_write_song(polyphony, n, buffer).unwrap_or(0)
+    }
+    type Log = paper::Log;
+
+    #[inline]
+    fn log_begin(order: &mut [u8]) -> paper::Log {
+        paper_log_begin(order)
+    }
+
+    #[inline]
+    fn log_part(log: &mut paper::Log, part: &mut [u8]) -> bool {
+        paper_log_part(log, part).is_none()
+    }
+
+    #[inline]
+    fn log_end(log: &mut paper::Log) -> [u8; 38] {
+        paper_log_end(log).message.unwrap_or([0; 38])
     }
 }

@@ -1,5 +1,5 @@
-//! Times both implementations on each stream, on pitches, on gains and on a song, and prints what a byte, a pitch, a call for
-//! gains or the whole song costs.
+//! Times both implementations on each stream, on pitches, on gains, on a song and on a log, and prints what a byte, a pitch, a
+//! call for gains, the whole song or a line of the log costs.
 //!
 //! The stream is cut into slices, and the two sides take each slice in alternation; of the times of a slice over several
 //! turns the median counts. So a machine that is busy with something else disturbs both sides alike, and little.
@@ -17,11 +17,15 @@ const SLICE: usize = 1000;
 const TARGET: f64 = 8.0;
 /// The longest song in at most so many milliseconds.
 const SONG_TARGET: f64 = 40.0;
+/// A log of chords at least so many million lines a second.
+const LOG_TARGET: f64 = 1.0;
+/// Bytes of a log that are given at a time.
+const LOG_PART: usize = 4096;
 
 /// Prints a row for each stream; false if a target was missed.
 pub fn run() -> bool {
     println!(
-        "medians of {TURNS} turns, the sides in alternation; ns a byte, pitch or call for gains, million messages a second"
+        "medians of {TURNS} turns, the sides in alternation; ns a byte, pitch, call for gains or line, million messages or lines a second"
     );
     println!(
         "{:30} {:>8} {:>8} {:>7} {:>8} {:>8}  target",
@@ -31,7 +35,8 @@ pub fn run() -> bool {
     print_pitches();
     print_gains();
     let song_met = print_song();
-    rows.into_iter().all(|met| met) && song_met
+    let log_met = print_log();
+    rows.into_iter().all(|met| met) && song_met && log_met
 }
 
 /// Prints what a stream costs; false if its target was missed.
@@ -170,6 +175,54 @@ fn time_song<S: Subject>(buffer: &mut [u8]) -> (f64, u32) {
     let clock = Instant::now();
     let thefts = S::write_song(black_box(64), buffer.len(), buffer);
     (clock.elapsed().as_secs_f64(), thefts)
+}
+
+/// Prints what a line of a log costs; false if its target was missed.
+fn print_log() -> bool {
+    let mut log = streams::chords();
+    let parts = log.bytes.len().div_ceil(LOG_PART);
+    let mut proved = vec![Vec::new(); parts];
+    let mut paper = vec![Vec::new(); parts];
+    for _ in 0..TURNS {
+        let (mut order, mut order_too) = (log.order, log.order);
+        let mut one = Proved::log_begin(&mut order);
+        let mut other = Paper::log_begin(&mut order_too);
+        for (at, part) in log.bytes.chunks_mut(LOG_PART).enumerate() {
+            proved[at].push(time_part::<Proved>(&mut one, part));
+            paper[at].push(time_part::<Paper>(&mut other, part));
+        }
+        let message = Proved::log_end(&mut one);
+        assert_eq!(
+            message,
+            Paper::log_end(&mut other),
+            "the two sides answer differently"
+        );
+        assert_eq!(message[0], 0xF0, "the log has no message");
+    }
+    let lines = log.lines as f64;
+    let [proved, paper] = [proved, paper].map(|parts| parts.into_iter().map(median).sum::<f64>());
+    let rates = [proved, paper].map(|seconds| lines / seconds / 1e6);
+    let met = rates[0] >= LOG_TARGET;
+    println!(
+        "{:30} {:>8.1} {:>8.1} {:>7.2} {:>8.2} {:>8.2}  {LOG_TARGET} million {}",
+        "log of chords, a line",
+        proved * 1e9 / lines,
+        paper * 1e9 / lines,
+        proved / paper,
+        rates[0],
+        rates[1],
+        if met { "met" } else { "MISSED" }
+    );
+    met
+}
+
+/// The seconds for a part of a log in which no number falls.
+fn time_part<S: Subject>(log: &mut S::Log, part: &mut [u8]) -> f64 {
+    let clock = Instant::now();
+    let goes_on = S::log_part(log, black_box(part));
+    let seconds = clock.elapsed().as_secs_f64();
+    assert!(goes_on, "a number fell in the log");
+    seconds
 }
 
 /// A device with levels of its own on every channel.

@@ -15,7 +15,7 @@ use std::mem::MaybeUninit;
 
 pub mod record;
 
-pub use record::{Channel, Device};
+pub use record::{Channel, Device, Log};
 
 /// What the generator of a note was.
 #[derive(Clone, Copy, Debug, PartialEq, Eq)]
@@ -76,9 +76,24 @@ pub struct Gains {
     pub right: f32,
 }
 
-/// The number of a refused query, 12 or 14, of a refused pitch, 21, of refused gains, 24, or of a refused song, 1 or 25.
+/// The MIP message of a log: its bytes, for a driver to send, and how many lines the log has.
+#[derive(Clone, Copy, Debug, PartialEq, Eq)]
+pub struct MipMessage {
+    pub bytes: [u8; 38],
+    pub lines: u64,
+}
+
+/// The number of a refused query, 12 or 14, of a refused order, 16, of a log so far, 15 or 17, of a refused pitch, 21, of refused gains, 24, or of a refused song, 1 or 25.
 #[derive(Clone, Copy, Debug, PartialEq, Eq)]
 pub struct Refused(pub u8);
+
+/// A log that gives no message. The number: 15, a line of another form; 16, an order that is not all sixteen channels once; 17, a line at which a MIP message for device 7F or 0
+/// ends, a note is stolen or number 11 falls. The line that it fell at, from 1; 0 with 16.
+#[derive(Clone, Copy, Debug, PartialEq, Eq)]
+pub struct RefusedLog {
+    pub number: u8,
+    pub line: u64,
+}
 
 extern "C" {
     fn muntinorris_start(d: *mut Device, polyphony: u8, id: u8) -> record::AnswerNumbers;
@@ -91,6 +106,10 @@ extern "C" {
     fn muntinorris_gains(expression: u8, volume: u8, pan: u8) -> record::GainNumbers;
     fn muntinorris_channel_gains(c: *const Channel) -> record::GainNumbers;
     fn muntinorris_write_song(polyphony: u8, n: usize, song: *mut u8, length: usize) -> record::SongNumbers;
+    fn muntinorris_log_begin(log: *mut Log, order: *const u8, n: usize) -> u8;
+    fn muntinorris_log_part(log: *mut Log, part: *const u8, n: usize) -> u8;
+    fn muntinorris_log_end(log: *const Log) -> record::MipNumbers;
+    fn muntinorris_mip_from_log(order: *const u8, n: usize, log: *const u8, length: usize) -> record::MipNumbers;
 }
 
 impl From<record::AnswerNumbers> for Answer {
@@ -125,6 +144,16 @@ fn answered<T>(number: u8, value: T) -> Result<T, Refused> {
 impl From<record::GainNumbers> for Result<Gains, Refused> {
     fn from(n: record::GainNumbers) -> Result<Gains, Refused> {
         answered(n.number, Gains { left: n.left, right: n.right })
+    }
+}
+
+impl From<record::MipNumbers> for Result<MipMessage, RefusedLog> {
+    fn from(n: record::MipNumbers) -> Result<MipMessage, RefusedLog> {
+        if n.number == 0 {
+            Ok(MipMessage { bytes: n.bytes, lines: n.line })
+        } else {
+            Err(RefusedLog { number: n.number, line: n.line })
+        }
     }
 }
 
@@ -228,4 +257,57 @@ pub fn write_song(polyphony: u8, n: usize, song: &mut [u8]) -> Result<u32, Refus
     // SAFETY: the pointer is to as many bytes as the length says, which nobody else has for the call.
     let a = unsafe { muntinorris_write_song(polyphony, n, song.as_mut_ptr(), song.len()) };
     answered(a.number, a.thefts)
+}
+
+/// A log in parts of any length, so that it may be longer than memory: the message is the one that [`mip_from_log`] gives for all parts together, however they are cut.
+///
+/// ```
+/// use muntinorris::Log;
+///
+/// let mut log = Log::begin(&[10, 1, 2, 3, 4, 5, 6, 7, 8, 9, 11, 12, 13, 14, 15, 16]).unwrap();
+/// for part in ["b,144\nb,6", "0\nb,64", "\n"] {
+///     log.part(part.as_bytes()).unwrap();
+/// }
+/// let message = log.end().unwrap();
+/// assert_eq!(message.bytes[..9], [0xF0, 0x7F, 0x7F, 0x0B, 0x01, 10 - 1, 0, 1 - 1, 1]);
+/// assert_eq!(message.lines, 3);
+/// ```
+impl Log {
+    /// A log with this order of all sixteen channels, 1 to 16, by falling priority; number 16 for any other list.
+    pub fn begin(order: &[u8]) -> Result<Log, Refused> {
+        let mut log = MaybeUninit::uninit();
+        // SAFETY: the pointers are to memory for a log, all of whose fields the call writes without reading them, and to as many bytes as the length says.
+        let number = unsafe { muntinorris_log_begin(log.as_mut_ptr(), order.as_ptr(), order.len()) };
+        answered(number, unsafe { log.assume_init() })
+    }
+
+    /// One part more, cut anywhere; number 15 or 17 if one has fallen so far, after which nothing is looked at any more.
+    pub fn part(&mut self, part: &[u8]) -> Result<(), Refused> {
+        // SAFETY: the pointers are to a log that nobody else has for the call, every value of which is a record, and to as many bytes as the length says.
+        let number = unsafe { muntinorris_log_part(self, part.as_ptr(), part.len()) };
+        answered(number, ())
+    }
+
+    /// The message of the log as far as it was given, or its number and line; a last line without 0AH is of another form. The log may be gone on with.
+    pub fn end(&self) -> Result<MipMessage, RefusedLog> {
+        // SAFETY: the pointer is to a log, which the call reads and does not keep.
+        unsafe { muntinorris_log_end(self) }.into()
+    }
+}
+
+/// The MIP message of a song, from its log and an order of all sixteen channels, 1 to 16, by falling priority; else the number, and the line that it fell at. A line of the log is
+/// `b,` and a MIDI byte or `e,` and a generator that is reported, 0 to 63, in decimal, each ended by 0AH. The value of a channel is the largest number of generators that were busy
+/// together, after some line, on it and the channels before it.
+///
+/// ```
+/// use muntinorris::{mip_from_log, RefusedLog};
+///
+/// let order: Vec<u8> = (1..=16).collect();
+/// let message = mip_from_log(&order, b"b,144\nb,60\nb,64\nb,64\nb,64\n").unwrap();
+/// assert_eq!(message.bytes[5..9], [0, 2, 1, 2]);
+/// assert_eq!(mip_from_log(&order, b"b,144\nb,060\n"), Err(RefusedLog { number: 15, line: 2 }));
+/// ```
+pub fn mip_from_log(order: &[u8], log: &[u8]) -> Result<MipMessage, RefusedLog> {
+    // SAFETY: the pointers are to as many bytes as the lengths say, which the call reads and does not keep.
+    unsafe { muntinorris_mip_from_log(order.as_ptr(), order.len(), log.as_ptr(), log.len()) }.into()
 }

@@ -1,4 +1,4 @@
-//! The structs of include/muntinorris.h, field by field. A record can be read and copied; only a start makes one, and only the calls change it.
+//! The structs of include/muntinorris.h, field by field. A record can be read and copied; only a start, or the begin of a log, makes one, and only the calls change it.
 
 /// Between two bytes: the status byte in force, 0 for none, the number of data bytes since, and these bytes.
 #[repr(C)]
@@ -89,6 +89,47 @@ impl Device {
     }
 }
 
+/// The line of a log that is not ended: its first seven bytes, and how many of these there are.
+#[repr(C)]
+#[derive(Clone, Debug, PartialEq, Eq)]
+pub struct LogLine {
+    pub count: u8,
+    pub bytes: [u8; 7],
+}
+
+/// A log up to its last 0AH; where a number has fallen, as it was before the line that it fell at, which is counted.
+#[repr(C)]
+#[derive(Clone, Debug, PartialEq, Eq)]
+pub struct Logged {
+    /// After the lines so far.
+    pub device: Device,
+    pub order: [u8; 16],
+    /// For each place of the order: the largest number of busy generators, after a line so far, on the channels up to it.
+    pub most: [u8; 16],
+    /// Lines looked at so far.
+    pub lines: u64,
+    /// 0, or the number that fell.
+    pub number: u8,
+}
+
+/// A log as far as it was given.
+#[repr(C)]
+#[derive(Clone, Debug, PartialEq, Eq)]
+pub struct Log {
+    song: Logged,
+    line: LogLine,
+}
+
+impl Log {
+    pub fn song(&self) -> &Logged {
+        &self.song
+    }
+
+    pub fn line(&self) -> &LogLine {
+        &self.line
+    }
+}
+
 /// An answer in plain numbers.
 #[repr(C)]
 #[derive(Clone, Copy, Debug, PartialEq, Eq)]
@@ -147,6 +188,14 @@ pub struct SongNumbers {
     pub number: u8,
 }
 
+#[repr(C)]
+#[derive(Clone, Copy, Debug, PartialEq, Eq)]
+pub struct MipNumbers {
+    pub line: u64,
+    pub number: u8,
+    pub bytes: [u8; 38],
+}
+
 /// Each struct's size, and each field's place and size, in the names of the header: what the C test prints with the word `print`.
 pub fn layout() -> String {
     let mut lines = String::new();
@@ -171,5 +220,9 @@ pub fn layout() -> String {
     lay!("pitch_answer", PitchNumbers { entry: u32, octave: i8, number: u8 });
     lay!("gains_answer", GainNumbers { left: f32, right: f32, number: u8 });
     lay!("song_answer", SongNumbers { thefts: u32, number: u8 });
+    lay!("mip_answer", MipNumbers { line: u64, number: u8, bytes: [u8; 38] });
+    lay!("log", Log { song: Logged, line: LogLine });
+    lay!("logged", Logged { device: Device, order: [u8; 16], most: [u8; 16], lines: u64, number: u8 });
+    lay!("log_line", LogLine { count: u8, bytes: [u8; 7] });
     lines
 }

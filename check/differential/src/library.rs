@@ -11,7 +11,7 @@ use paper::{Answer, Entry, GeneratorView, Number, Pitch, Progress, State, Was};
 use proved::{Channel, Device, SongAnswer, RECORD_BYTES};
 use random::Random;
 
-const NUMBERS: [Number; 17] = [
+const NUMBERS: [Number; 20] = [
     Number::PolyphonyOutOfRange,
     Number::IdOutOfRange,
     Number::StrayData,
@@ -26,16 +26,19 @@ const NUMBERS: [Number; 17] = [
     Number::NoSuchGenerator,
     Number::GeneratorIdle,
     Number::NoSuchChannel,
+    Number::LogOtherForm,
+    Number::BadOrder,
+    Number::LogSpoilt,
     Number::PitchOutOfRange,
     Number::LevelOutOfRange,
     Number::SongTooLong,
 ];
 
 /// What the memory holds before a start, which "makes the record, whatever the memory held before", and beside it.
-const RUBBISH: u8 = 0xA5;
+pub const RUBBISH: u8 = 0xA5;
 
 /// As much memory on each side as a byte, taken for the number of any element of the record, could reach.
-const GUARD: usize = 4096;
+pub const GUARD: usize = 4096;
 
 /// A record with some memory on both sides: the library "writes nothing but the record that it is lent".
 #[repr(C)]
@@ -385,16 +388,21 @@ impl Implementation for Lent {
 
     fn record(&self) -> Given<Record> {
         self.neighbours_untouched()?;
-        let instrument = &self.device.instrument;
-        Ok(Record {
-            polyphony: instrument.polyphony,
-            id: instrument.id,
-            entries: entries_of(&instrument.table)?,
-            channels: instrument.channels,
-            generators: generators_of(&instrument.generators)?,
-            oldest_first: ages_of(&instrument.generators.ages)?,
-            progress: progress_of(&self.device.parser, self.status, self.data)?,
-            sysex: sysex_of(&self.device.parser),
-        })
+        record_of(&self.device, self.status, self.data)
     }
+}
+
+/// The record of a device whose last status byte and last data byte were these.
+pub fn record_of(device: &Device, status: u8, data: u8) -> Given<Record> {
+    let instrument = &device.instrument;
+    Ok(Record {
+        polyphony: instrument.polyphony,
+        id: instrument.id,
+        entries: entries_of(&instrument.table)?,
+        channels: instrument.channels,
+        generators: generators_of(&instrument.generators)?,
+        oldest_first: ages_of(&instrument.generators.ages)?,
+        progress: progress_of(&device.parser, status, data)?,
+        sysex: sysex_of(&device.parser),
+    })
 }

@@ -1,10 +1,13 @@
-//! `differential`: the proved library and the second implementation on the same events, and asked for the same pitches,
-//! gains and songs.
+//! `differential`: the proved library and the second implementation on the same events and logs, and asked for the same
+//! pitches, gains and songs.
 //!
-//! `--events N` and `--seed S` choose the run; `--all-pitches` asks for every pitch there is, not for a sample;
+//! `--events N`, `--logs N` and `--seed S` choose the run; `--all-pitches` asks for every pitch there is, not for a sample;
 //! `--self-test` shows instead that the comparison finds wrong variants. The exit code is 0 only if nothing differed
 //! and every answer was reached.
 
+mod arranging;
+mod arranging_self_test;
+mod arranging_sides;
 mod book;
 mod channel_gains;
 mod claims;
@@ -16,10 +19,13 @@ mod hardest_song;
 mod hardest_song_self_test;
 mod library;
 mod lists;
+mod log_lines;
+mod logs;
 mod most_thefts;
 mod pitches;
 mod plain;
 mod plain_gains;
+mod plain_log;
 mod plain_pitch;
 mod plain_song;
 mod record;
@@ -30,6 +36,8 @@ mod split;
 mod tally;
 mod writer;
 
+use arranging::Readers;
+use arranging_sides::LentLog;
 use compare::{Comparison, Reached};
 use gains::Compared;
 use hardest_song::HeldAgainst;
@@ -42,6 +50,7 @@ use tally::Tally;
 
 struct Options {
     events: u64,
+    logs: u64,
     seed: u64,
     all_pitches: bool,
     self_test: bool,
@@ -50,6 +59,7 @@ struct Options {
 fn options() -> Result<Options, String> {
     let mut options = Options {
         events: 5_000_000,
+        logs: 60_000,
         seed: 1,
         all_pitches: false,
         self_test: false,
@@ -64,6 +74,7 @@ fn options() -> Result<Options, String> {
         };
         match argument.as_str() {
             "--events" => options.events = number()?,
+            "--logs" => options.logs = number()?,
             "--seed" => options.seed = number()?,
             "--all-pitches" => options.all_pitches = true,
             "--self-test" => options.self_test = true,
@@ -116,6 +127,7 @@ fn differential(options: &Options) -> Result<(), String> {
     }
     let seconds = clock.elapsed().as_secs_f64();
     let tally = &mut reached.tally;
+    let arranged = logs(options, tally)?;
     tally.refused(Number::PitchOutOfRange, pitches(options)?);
     tally.refused(
         Number::LevelOutOfRange,
@@ -132,11 +144,37 @@ fn differential(options: &Options) -> Result<(), String> {
     if reached.claims.at_most_thefts == 0 || held.at_the_bound == 0 {
         missing.push("the most thefts of ticket 14".to_string());
     }
+    missing.extend(arranged.missing());
     if !missing.is_empty() {
         return Err(format!("never reached: {}", missing.join(", ")));
     }
     println!("differential: ok");
     Ok(())
+}
+
+/// Logs of songs, each given to both sides whole and in parts.
+fn logs(options: &Options, tally: &mut Tally) -> Result<arranging::Reached, String> {
+    let clock = Instant::now();
+    let readers = Readers::new(options.seed);
+    let library = LentLog::new([library::RUBBISH; proved::LOG_BYTES]);
+    let mut comparison = arranging::Comparison::new(library, &readers);
+    comparison.run(options.seed, options.logs)?;
+    let reached = comparison.reached;
+    println!(
+        "{} logs compared, {} lines in {} parts, {} ends asked for in the middle, no difference; {} messages with {} values above 0, each taken by both sides, {:.1} s",
+        reached.logs,
+        reached.lines,
+        reached.parts,
+        reached.ends,
+        reached.messages,
+        reached.values,
+        clock.elapsed().as_secs_f64()
+    );
+    println!("logs spoilt by: {}", reached.spoilers());
+    for (number, count) in arranging::NUMBERS.into_iter().zip(reached.numbers) {
+        tally.refused(number, count);
+    }
+    Ok(reached)
 }
 
 /// Pitches of both sides; how many of them were refused.
@@ -232,8 +270,10 @@ fn rubbish(seed: u64) -> Result<(), String> {
     const RECORDS: usize = 20_000;
     let survived = library::survive_rubbish(&mut Random::new(seed), RECORDS);
     survived.map_err(|found| format!("a record full of rubbish: {} was written", found.0))?;
+    let survived = arranging_sides::survive_rubbish(&mut Random::new(seed), RECORDS);
+    survived.map_err(|found| format!("a log full of rubbish: {} was written", found.0))?;
     println!(
-        "{RECORDS} records full of rubbish: every call returned and wrote nothing beside them"
+        "{RECORDS} records and as many logs full of rubbish: every call returned and wrote nothing beside them"
     );
     Ok(())
 }

@@ -4,7 +4,9 @@ use crate::book::{Slip, SLIPS, WRONG_BOUNDS};
 use crate::compare::{Comparison, Failure};
 use crate::plain::{Mistake, Plain, MISTAKES};
 use crate::plain_pitch::{self, PlainPitch};
-use crate::{gains_self_test, hardest_song_self_test, library, pitches, reference};
+use crate::{
+    arranging_self_test, gains_self_test, hardest_song_self_test, library, pitches, reference,
+};
 use random::Random;
 
 /// Every wrong variant must be found within so many events.
@@ -57,6 +59,7 @@ pub fn run(seed: u64) -> Vec<String> {
     complaints.extend(wrong_entries(seed));
     complaints.extend(gains_self_test::run(seed));
     complaints.extend(hardest_song_self_test::run(seed));
+    complaints.extend(arranging_self_test::run(seed));
     complaints
 }
 

@@ -232,6 +232,19 @@ fn wire(channel: u8) -> Result<u8, Number> {
     }
 }
 
+/// What ticket 1 counts.
+impl Device {
+    /// How many generators of a channel on the wire are held or sustained.
+    pub(crate) fn busy_count(&self, channel: u8) -> u8 {
+        self.generators.busy_count(channel)
+    }
+
+    /// Is every generator busy?
+    pub(crate) fn is_full(&self) -> bool {
+        self.generators.all_busy()
+    }
+}
+
 /// The record, field by field, for a comparison with another implementation.
 impl Device {
     pub fn polyphony(&self) -> u8 {

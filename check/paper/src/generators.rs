@@ -84,6 +84,11 @@ impl Generators {
         (self.busy() & self.of_channel[usize::from(channel)]).count_ones() as u8
     }
 
+    /// Is no generator idle or releasing?
+    pub(crate) fn all_busy(&self) -> bool {
+        self.busy() == self.all
+    }
+
     /// "The idle generator of lowest number."
     pub(crate) fn lowest_idle(&self) -> Option<u8> {
         let idle = self.all & !self.sounding();

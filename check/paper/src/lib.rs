@@ -1,5 +1,5 @@
-//! Document 01, "The note allocator of a scalable polyphony module", and tickets 7, 13 and 14 of document 02, the pitch
-//! of a note, the gains of a channel and the hardest song, written by hand in plain Rust.
+//! Document 01, "The note allocator of a scalable polyphony module", and tickets 1, 7, 13 and 14 of document 02, the MIP
+//! message from a song's log, the pitch of a note, the gains of a channel and the hardest song, written by hand in plain Rust.
 //!
 //! This is a second implementation, made from the papers alone. It serves as the other side of the
 //! differential test and as the baseline of the benchmark, so it is written as for a small sound
@@ -9,6 +9,7 @@
 
 mod age;
 mod answer;
+mod arrange;
 mod channel;
 mod device;
 mod distance;
@@ -21,6 +22,7 @@ mod song;
 mod table;
 
 pub use answer::{Answer, Number, Was};
+pub use arrange::{mip_from_log, Arranged, Event, Log, LINE_BYTES, MESSAGE_BYTES};
 pub use channel::Channel;
 pub use device::Device;
 pub use distance::Distance;

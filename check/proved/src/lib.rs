@@ -1,4 +1,4 @@
-//! The proved library through its C header, `include/muntinorris.h`: the same structures, the same ten calls.
+//! The proved library through its C header, `include/muntinorris.h`: the same structures, the same fourteen calls.
 //!
 //! The only unsafe code is here. The header wants a record that a start made; on any other bytes a call "still returns, and
 //! touches no memory but the record", so that nothing here can go wrong for Rust.
@@ -76,6 +76,15 @@ pub struct SongAnswer {
     pub number: u8,
 }
 
+/// `struct muntinorris_mip_answer`.
+#[repr(C)]
+#[derive(Clone, Copy, Debug, PartialEq, Eq)]
+pub struct MipAnswer {
+    pub line: u64,
+    pub number: u8,
+    pub bytes: [u8; 38],
+}
+
 /// `struct muntinorris_parser`.
 #[repr(C)]
 #[derive(Clone, Copy, Debug)]
@@ -144,6 +153,41 @@ pub struct Device {
     pub instrument: Instrument,
 }
 
+/// `struct muntinorris_logged`.
+#[repr(C)]
+#[derive(Clone, Copy, Debug)]
+pub struct Logged {
+    pub device: Device,
+    pub order: [u8; 16],
+    pub most: [u8; 16],
+    pub lines: u64,
+    pub number: u8,
+}
+
+/// `struct muntinorris_log_line`.
+#[repr(C)]
+#[derive(Clone, Copy, Debug, PartialEq, Eq)]
+pub struct LogLine {
+    pub count: u8,
+    pub bytes: [u8; 7],
+}
+
+/// `struct muntinorris_log`.
+#[repr(C)]
+#[derive(Clone, Copy, Debug)]
+pub struct Log {
+    pub song: Logged,
+    pub line: LogLine,
+}
+
+/// The record of a log, its padding included.
+pub const LOG_BYTES: usize = 568;
+
+/// The memory of a log: all its bytes, so that padding can be looked at too.
+#[repr(C, align(8))]
+#[derive(Clone, Copy, Debug, PartialEq, Eq)]
+pub struct LogMemory(pub [u8; LOG_BYTES]);
+
 const _: () = assert!(
     std::mem::size_of::<GainsAnswer>() == 12 && std::mem::offset_of!(GainsAnswer, number) == 8
 );
@@ -154,6 +198,22 @@ const _: () = assert!(
 
 const _: () =
     assert!(std::mem::size_of::<Device>() == RECORD_BYTES && std::mem::align_of::<Device>() == 1);
+
+const _: () = assert!(
+    std::mem::size_of::<MipAnswer>() == 48
+        && std::mem::offset_of!(MipAnswer, number) == 8
+        && std::mem::offset_of!(MipAnswer, bytes) == 9
+);
+
+const _: () = assert!(
+    std::mem::size_of::<Log>() == LOG_BYTES
+        && std::mem::align_of::<Log>() == std::mem::align_of::<LogMemory>()
+        && std::mem::offset_of!(Logged, order) == 507
+        && std::mem::offset_of!(Logged, most) == 523
+        && std::mem::offset_of!(Logged, lines) == 544
+        && std::mem::offset_of!(Logged, number) == 552
+        && std::mem::offset_of!(Log, line) == 560
+);
 
 extern "C" {
     fn muntinorris_start(device: *mut Device, polyphony: u8, id: u8) -> Answer;
@@ -166,6 +226,15 @@ extern "C" {
     fn muntinorris_gains(expression: u8, volume: u8, pan: u8) -> GainsAnswer;
     fn muntinorris_channel_gains(channel: *const Channel) -> GainsAnswer;
     fn muntinorris_write_song(polyphony: u8, n: usize, song: *mut u8, length: usize) -> SongAnswer;
+    fn muntinorris_log_begin(log: *mut Log, order: *const u8, n: usize) -> u8;
+    fn muntinorris_log_part(log: *mut Log, part: *const u8, n: usize) -> u8;
+    fn muntinorris_log_end(log: *const Log) -> MipAnswer;
+    fn muntinorris_mip_from_log(
+        order: *const u8,
+        n: usize,
+        log: *const u8,
+        length: usize,
+    ) -> MipAnswer;
 }
 
 /// A call that wants no record.
@@ -202,6 +271,55 @@ pub fn write_song_nowhere(polyphony: u8, n: usize, address: usize) -> SongAnswer
     let nowhere = std::ptr::without_provenance_mut(address);
     // SAFETY: of length 0 nothing is read or written.
     unsafe { muntinorris_write_song(polyphony, n, nowhere, 0) }
+}
+
+/// The message of a whole log. What is lent is lent for writing, which the call does not do, so that a caller can look
+/// whether it did; in `LogMemory` too.
+#[inline]
+pub fn mip_from_log(order: &mut [u8], log: &mut [u8]) -> MipAnswer {
+    // SAFETY: the pointers are to as many bytes as the lengths say, and these borrows are the only ones.
+    unsafe {
+        muntinorris_mip_from_log(order.as_mut_ptr(), order.len(), log.as_mut_ptr(), log.len())
+    }
+}
+
+impl LogMemory {
+    /// Makes this memory the record of a log that begins.
+    #[inline]
+    pub fn begin(&mut self, order: &mut [u8]) -> u8 {
+        // SAFETY: the pointers are to a whole record and to as many bytes as the length says, and these borrows are the
+        // only ones.
+        unsafe { muntinorris_log_begin(self.pointer(), order.as_mut_ptr(), order.len()) }
+    }
+
+    #[inline]
+    pub fn part(&mut self, part: &mut [u8]) -> u8 {
+        // SAFETY: as for `begin`.
+        unsafe { muntinorris_log_part(self.pointer(), part.as_mut_ptr(), part.len()) }
+    }
+
+    #[inline]
+    pub fn end(&mut self) -> MipAnswer {
+        // SAFETY: the pointer is to a whole record, and this borrow is the only one.
+        unsafe { muntinorris_log_end(self.pointer()) }
+    }
+
+    fn pointer(&mut self) -> *mut Log {
+        self.0.as_mut_ptr().cast()
+    }
+
+    /// The record.
+    pub fn log(&self) -> &Log {
+        // SAFETY: the memory is aligned and large enough for a record, which is made of whole numbers alone, so that any
+        // bytes are one.
+        unsafe { &*self.0.as_ptr().cast() }
+    }
+
+    /// The record, to be changed by hand.
+    pub fn log_mut(&mut self) -> &mut Log {
+        // SAFETY: as for `log`, and this borrow is the only one.
+        unsafe { &mut *self.pointer() }
+    }
 }
 
 impl Device {

@@ -21,8 +21,11 @@ use Rattle.order.specs.Order.{isOrder}
 use Rattle.order.proofs.Once.{order-holds}
 use Rattle.arranging.specs.declared.Written.{Written}
 use Rattle.arranging.specs.Arranging.{fresh, spoils, atLine, fault, lookedAt, records, values, listing, mipMessage, told, refused, writtenBy, message}
+use Rattle.arranging.specs.declared.Run.{Run}
+use Rattle.arranging.specs.Run.{heard, joined, begun, finished}
 use Rattle.arranging.proofs.Bytes.{message-length}
-use Rattle.arranged.specs.Laws.{valuesOf, fed, GivenBack, Tight}
+use Rattle.arranging.proofs.Parts.{heard-append, parts}
+use Rattle.arranged.specs.Laws.{valuesOf, fed, ReaderTakes, AllTight, ZerosBeside, heardParts, PartsMakeNoDifference}
 use Rattle.arranged.proofs.Reader.{reader-takes}
 use Rattle.arranged.proofs.Tight.{never-above, tight}
 
@@ -42,15 +45,15 @@ wrote order log b o = if b then writtenBy order (records fresh (linesOf log)) (t
 fault-above : (d : Device) (ls : List (List ℕ)) (n : ℕ) → fault d ls ≡ some n → n ≡ 0 → ⊥
 unfolding fault atLine
 fault-above d [] n h k = absurd (let z : _≡_ {A = ℕ} 0 1 = cc in omega arith)
-fault-above d (l ∷ ls) n h k = at (eventOf l) h
+fault-above d (l ∷ ls) n h k = at (eventOf l) (λ r q. fault-above r ls n q k) h
   where
-    at : (o : Option Event) → atLine d (λ r. fault r ls) o ≡ some n → ⊥
-    at none h = let e : 15 ≡ n = cc in omega arith
-    at (some e) h = go (spoils d e) h
+    at : (o : Option Event) → ((r : Device) → fault r ls ≡ some n → ⊥) → atLine d (λ r. fault r ls) o ≡ some n → ⊥
+    at none ih h = let e : _≡_ {A = ℕ} 15 n = cc in omega arith
+    at (some e) ih h = go (spoils d e) h
       where
         go : (t : Bool) → (if t then some 17 else fault (taken d e .device) ls) ≡ some n → ⊥
-        go true h = let q : 17 ≡ n = cc in omega arith
-        go false h = fault-above (taken d e .device) ls n h k
+        go true h = let q : _≡_ {A = ℕ} 17 n = cc in omega arith
+        go false h = ih (taken d e .device) h
 
 whole : (order log : List ℕ) → message order log .number ≡ 0 → Whole′ order log
 unfolding message
@@ -74,7 +77,7 @@ values-back (c ∷ l) [] h = absurd (omega arith)
 values-back (c ∷ l) (v ∷ vs) h = ap (λ (r : List ℕ). v ∷ r) (values-back l vs (omega arith))
 
 -- "Our reader must take every message so written": whatever it answered last, and whatever its record, of any P, own ID, table, notes and parser
-pub given-back : (order log : List ℕ) → message order log .number ≡ 0 → (o : Output) → GivenBack order log (fed o (message order log .bytes))
+pub given-back : ReaderTakes
 given-back order log h o =
     let w = whole order log h in
     let t = reader-takes order (records fresh (linesOf log)) (w .ordered) o in
@@ -85,7 +88,7 @@ given-back order log h o =
       same-values = ap (map (λ (e : Entry). e .value)) (t .entries) ∙ values-back order (valuesOf order log) n;
     })
 
-pub values-tight : (order log : List ℕ) (k : ℕ) → k < 16 → Tight order log k
+pub values-tight : AllTight
 values-tight order log k h = record { enough = λ j s. never-above order log k j h s; needed = tight order log k h }
 
 pub bytes-38 : (order log : List ℕ) → message order log .number ≡ 0 → length (message order log .bytes) ≡ 38
@@ -93,7 +96,7 @@ bytes-38 order log h =
     let w = whole order log h in
     ap length (w .bytes) ∙ message-length order (valuesOf order log) (order-holds order (w .ordered) .size) (values-16 order (records fresh (linesOf log)))
 
-pub zeros-beside : (order log : List ℕ) → (message order log .number ≡ 0 → ⊥) → message order log .bytes ≡ replicate 38 0
+pub zeros-beside : ZerosBeside
 unfolding message
 zeros-beside order log h = go (isOrder order) (fault fresh (linesOf log)) h
   where
@@ -101,3 +104,12 @@ zeros-beside order log h = go (isOrder order) (fault fresh (linesOf log)) h
     go true none h = absurd (h refl)
     go true (some m) h = refl
     go false o h = refl
+
+-- two parts are one, and so are many
+heard-parts : (r : Run) (ps : List (List ℕ)) → heardParts r ps ≡ heard r (joined ps)
+unfolding heard
+heard-parts r [] = refl
+heard-parts r (p ∷ ps) = heard-parts (heard r p) ps ∙ sym (heard-append r p (joined ps))
+
+pub any-parts : PartsMakeNoDifference
+any-parts order ps = ap finished (heard-parts (begun order) ps) ∙ parts order (joined ps)

@@ -33,7 +33,8 @@ use Rattle.playing.specs.declared.Reply.{Reply}
 use Rattle.playing.specs.Playing.{replied}
 use Rattle.device.specs.declared.Device.{Device}
 use Rattle.device.specs.declared.Output.{Output}
-use Rattle.device.specs.Device.{newTable, mipTaken, exclusive, heard, outputOf, byteTaken}
+use Rattle.exclusive.specs.Exclusive.{newTable, mipTaken, exclusive}
+use Rattle.device.specs.Device.{heard, outputOf, byteTaken}
 use Rattle.order.specs.Order.{isOrder}
 use Rattle.order.proofs.Once.{Members, order-holds}
 use Rattle.arranging.specs.Arranging.{values, listing, pairBytes, mipMessage}

@@ -6,3 +6,4 @@ pub mod MipKind
 pub mod Parts
 pub mod Quiet
 pub mod Told
+pub mod Witness

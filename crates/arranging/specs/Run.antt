@@ -3,7 +3,7 @@
 -- Assumes nothing.
 use Prim.Native.Nat.{ℕ, _+_}
 use mathlib.Core.Bool.{Bool, true, false}
-use mathlib.Core.List.{List, [], _∷_}
+use mathlib.Core.List.{List, [], _∷_, _++_}
 use mathlib.Core.Option.{Option, some, none}
 use lib.Dec.{eqb}
 use lib.ListN.{replicate}
@@ -76,6 +76,11 @@ byteHeard r b =
 unfoldable pub heard : Run → List ℕ → Run
 heard r [] = r
 heard r (b ∷ l) = heard (byteHeard r b) l
+
+-- several parts one behind the other
+abbrev pub joined : List (List ℕ) → List ℕ
+joined [] = []
+joined (p ∷ ps) = p ++ joined ps
 
 -- before the first part: the order is looked at
 unfoldable pub begunBy : Order → Run

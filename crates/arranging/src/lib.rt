@@ -1,8 +1,9 @@
 // The MIP message of a song's log (document 02, ticket 1), by value, for an order and a log of any bytes; the log in parts of any length, so that it may be
 // longer than memory. What holds of every message that is written is stated and proved in crate `arranged`. Assumes nothing.
 ghost use mathlib.Core.Path.{_≡_};
-ghost use mathlib.Core.Bool.{_&&_};
+ghost use mathlib.Core.Bool.{_&&_, not};
 ghost use Prim.Native.Nat.{_<_};
+ghost use lib.Dec.{eqb};
 ghost use lib.ListN.{getD};
 ghost use Rattle.splitter.specs.Split.{body, split};
 ghost use Rattle.sysex.specs.SysEx.{isMip};
@@ -53,21 +54,19 @@ pub struct Run {
 
 // ---- a line
 
-// Whether the byte ends a MIP message with device byte 7F or 0.
-fn ends_mip_at(p: Parser, b: u8) -> bool
-    ensures { λ r. ⌜ r ≡ (isSysEx (split p b .completed) && isMip 0 (body p)) ⌝ }
+fn is_sysex(c: Completed) -> bool
+    ensures { λ r. ⌜ r ≡ isSysEx c ⌝ }
 {
-    let c = p.completes(b);
     match c {
         Completed::Nothing => false,
         Completed::Stray => false,
         Completed::Cut => false,
         Completed::Message(_, _, _) => false,
-        Completed::SysEx => is_mip(p),
+        Completed::SysEx => true,
     }
 }
 
-// Whether what the parser holds is one.
+// Whether what the parser holds is a MIP message with device byte 7F or 0.
 fn is_mip(p: Parser) -> bool
     ensures { λ r. ⌜ r ≡ isMip 0 (body p) ⌝ }
 {
@@ -77,6 +76,16 @@ fn is_mip(p: Parser) -> bool
         Kind::SystemOn => false,
         Kind::Other => false,
     }
+}
+
+// Whether the byte ends one: it is the parser before the byte that holds it.
+fn ends_mip_at(p: Parser, b: u8) -> bool
+    ensures { λ r. ⌜ r ≡ (isSysEx (split p b .completed) && isMip 0 (body p)) ⌝ }
+{
+    if is_sysex(p.completes(b)) {
+        return is_mip(p);
+    }
+    false
 }
 
 fn ends_mip(d: Device, e: Event) -> bool
@@ -133,6 +142,13 @@ fn one_more(lines: u64) -> u64
         return lines + 1;
     }
     lines
+}
+
+// Whether a number has fallen.
+fn has_fallen(number: u8) -> bool
+    ensures { λ r. ⌜ r ≡ not (eqb number 0) ⌝ }
+{
+    number != 0
 }
 
 // A number falls: no line behind this one is looked at.
@@ -193,7 +209,7 @@ fn play_meaning(s: Song, m: Meaning) -> Song
 fn play_line(s: Song, l: Line) -> Song
     ensures { λ r. ⌜ r ≡ linePlayed s (textOf l) ⌝ }
 {
-    if s.number != 0 {
+    if has_fallen(s.number) {
         return s;
     }
     play_meaning(s, log::read(l))
@@ -201,16 +217,15 @@ fn play_line(s: Song, l: Line) -> Song
 
 // ---- the message
 
-// The first five bytes of a MIP message to all devices.
-const HEAD: [u8; 5] = [0xF0, 0x7F, 0x7F, 0x0B, 0x01];
-
 // Byte i of the message.
 fn byte_at(order: [u8; 16], most: [u8; 16], i: usize) -> u8
     requires { ⌜ i < 38 ⌝ }
     ensures { λ r. ⌜ r ≡ getD (mipMessage (listing order most)) i 0 ⌝ }
 {
+    // To all devices.
+    let head: [u8; 5] = [0xF0, 0x7F, 0x7F, 0x0B, 0x01];
     if i < 5 {
-        return HEAD[i];
+        return head[i];
     }
     if i == 37 {
         return 0xF7;
@@ -316,7 +331,7 @@ pub fn end(r: Run) -> Written
 {
     let s = r.song;
     let l = r.line;
-    if s.number != 0 {
+    if has_fallen(s.number) {
         return refuse(s.number, s.lines);
     }
     end_song(s, l.count)

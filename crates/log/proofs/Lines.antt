@@ -249,6 +249,23 @@ event-line l e h =
 pub line-of : (l : List ℕ) (e : Event) → eventOf l ≡ some e → l ≡ lineOf e
 line-of l e h = event-line l e h .0
 
+-- it is one of those that a log may have
+isLoggable : Event → Bool
+isLoggable (Byte b) = ltb b 256
+isLoggable (Report g) = ltb g 64
+
+all-loggable : every isLoggable loggable ≡ true
+unfolding loggable upTo isLoggable
+all-loggable = refl
+
+pub event-loggable : (l : List ℕ) (e : Event) → eventOf l ≡ some e → Loggable e
+unfolding eventOf isLoggable
+event-loggable l e h = inside e (first-passes (λ x. same l (lineOf x)) isLoggable loggable e h all-loggable .1)
+  where
+    inside : (e : Event) → isLoggable e ≡ true → Loggable e
+    inside (Byte b) k = ltb-true b 256 k
+    inside (Report g) k = ltb-true g 64 k
+
 no-event : (l : List ℕ) (e : Event) → eventOf l ≡ none → Spelled l e → ⊥
 unfolding eventOf
 no-event l e h s =

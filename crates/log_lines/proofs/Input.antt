@@ -15,8 +15,8 @@ use Rattle.fields.proofs.Numbers.{both}
 use Rattle.arranging.specs.declared.Run.{Run}
 use Rattle.arranging.specs.declared.Written.{Written}
 use Rattle.arranging.specs.Arranging.{message}
-use Rattle.arranging.specs.Run.{begun, byteHeard, heard, finished}
-use Rattle.arranging.proofs.Parts.{stays, parts, joined}
+use Rattle.arranging.specs.Run.{joined, begun, byteHeard, heard, finished}
+use Rattle.arranging.proofs.Parts.{stays, parts}
 use Rattle.log_lines.specs.declared.OrderLine.{OrderLine}
 use Rattle.log_lines.specs.declared.Reading.{Reading}
 use Rattle.log_lines.specs.LogLines.{newOrder, orderByte, orderBytes, orderIn, reading, newReading, byteRead, bytesRead, isKnown, ended, firstLine, behindFirst, arranged}

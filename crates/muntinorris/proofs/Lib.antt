@@ -2,4 +2,5 @@
 pub mod Copied
 pub mod Numbering
 pub mod PassedOn
-pub mod CopiedChannel
+pub mod CopiedAlone
+pub mod Kept

@@ -7,7 +7,11 @@ ghost use Rattle.events.specs.declared.Event.the-variants.{Byte, Report};
 ghost use Rattle.queries.specs.Queries.{generatorQuery, deviceMask, deviceShare};
 ghost use Rattle.pitch.specs.Pitch.{pitchOf};
 ghost use Rattle.song.specs.Song.{songAnswer, songWritten};
+ghost use Rattle.arranging.specs.Arranging.{message};
+ghost use Rattle.arranging.specs.Run.{heard, begun, finished};
 ghost use Rattle.numbers.specs.Numbers.{numbersOf, generatorNumbers, maskNumbers, shareNumbers, pitchNumbers, GainsTold, GainsToldOf, songNumbers};
+use arranging::Run;
+use arranging::Written;
 use channels::Channel;
 use device::Device;
 use numbers::AnswerNumbers;
@@ -98,4 +102,40 @@ pub extern "C" fn muntinorris_write_song(polyphony: u8, n: usize, song: &mut [u8
     ensures { λ r. ⌜ (r ≡ songNumbers (songAnswer polyphony n (now (song .entry)))) × (now (song .exit) ≡ songWritten polyphony n (now (song .entry))) ⌝ }
 {
     numbers::song_numbers(song::write_song(polyphony, n, song))
+}
+
+// A log is begun with this order of the channels: the record becomes that, whatever it was. 0, or 16 for an order that is none.
+#[no_mangle]
+pub extern "C" fn muntinorris_log_begin(log: &mut Run, order: &[u8]) -> u8
+    ensures { λ r. ⌜ (r ≡ begun (now (order .entry)) .song .number) × (now (log .exit) ≡ begun (now (order .entry))) ⌝ }
+{
+    let fresh = arranging::begin(order);
+    *log = fresh;
+    fresh.song.number
+}
+
+// A part of the log. The number that has fallen so far, or 0.
+#[no_mangle]
+pub extern "C" fn muntinorris_log_part(log: &mut Run, part: &[u8]) -> u8
+    ensures { λ r. ⌜ (r ≡ heard (now (log .entry)) (now (part .entry)) .song .number) × (now (log .exit) ≡ heard (now (log .entry)) (now (part .entry))) ⌝ }
+{
+    let next = arranging::take(*log, part);
+    *log = next;
+    next.song.number
+}
+
+// The message of the log as far as it was given.
+#[no_mangle]
+pub extern "C" fn muntinorris_log_end(log: &Run) -> Written
+    ensures { λ r. ⌜ r ≡ finished (now (log .entry)) ⌝ }
+{
+    arranging::end(*log)
+}
+
+// The message of an order and a whole log.
+#[no_mangle]
+pub extern "C" fn muntinorris_mip_from_log(order: &[u8], log: &[u8]) -> Written
+    ensures { λ r. ⌜ r ≡ message (now (order .entry)) (now (log .entry)) ⌝ }
+{
+    arranging::message(order, log)
 }

@@ -1,7 +1,8 @@
 -- `arranging::play_line` meets its contract: behind a number no line is looked at; else what `log::read` says of the line is played.
 -- Assumes nothing.
 use mathlib.Core.Path.{_≡_, refl, sym, ap, _∙_}
-use borrow.Author.Tests.{eq-eqb, ne-eqb}
+use borrow.Author.Tests.{not-true, not-false}
+use lib.Dec.{eqb}
 use Rattle.log.specs.Log.{eventOf, textOf}
 use Rattle.arranging.specs.Run.{playedBy, linePlayed}
 use Rattle.arranging.proofs.Bytes.{by-meaning}
@@ -9,9 +10,12 @@ use borrow.Author.Needs.{needs}
 use Rattle.arranging.proofs.play_line.Statement.{statement}
 use Rattle.arranging.proofs.play_line.Tie as tie
 
+has-fallen-requires : tie.Need-has-fallen-requires
+has-fallen-requires c κs = search needs
+
 returns : tie.Need-returns
 unfolding linePlayed
-returns c = simp (ne-eqb _ _ (c .if1 .taken))
+returns c = simp (not-true (eqb (c .before .before .args .s .number) 0) (sym (c .before .has-fallen .ensures) ∙ c .if1 .taken))
 
 read-requires : tie.Need-read-requires
 read-requires c κs = search needs
@@ -23,7 +27,7 @@ returns-2 : tie.Need-returns-2
 unfolding linePlayed
 returns-2 c =
     let a = c .before .before .before .before .args in
-    simp (eq-eqb _ _ (c .before .before .if1 .left)) (c .play-meaning .ensures ∙ ap (playedBy (a .s)) (c .before .read .ensures) ∙ by-meaning (a .s) (eventOf (textOf (a .l))))
+    simp (not-false (eqb (a .s .number) 0) (sym (c .before .before .before .has-fallen .ensures) ∙ c .before .before .if1 .left)) (c .play-meaning .ensures ∙ ap (playedBy (a .s)) (c .before .read .ensures) ∙ by-meaning (a .s) (eventOf (textOf (a .l))))
 
 pub play-line-spec : {M : Type 1} → statement M
-play-line-spec = tie.close (tie.spec returns read-requires play-meaning-requires returns-2)
+play-line-spec = tie.close (tie.spec has-fallen-requires returns read-requires play-meaning-requires returns-2)

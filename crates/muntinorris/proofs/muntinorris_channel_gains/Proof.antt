@@ -1,7 +1,9 @@
--- `muntinorris::muntinorris_channel_gains` meets its contract: `CopiedChannel`'s law at `channel_gain_numbers`, whose contract is all that is known of it.
+-- `muntinorris::muntinorris_channel_gains` meets its contract: `CopiedAlone`'s law at `channel_gain_numbers`, whose contract is all that is known of it.
 -- Assumes nothing.
 use Rattle.numbers.specs.Numbers.{GainsToldOf}
-use Rattle.muntinorris.proofs.CopiedChannel.{Asked, copied}
+use Rattle.muntinorris.proofs.CopiedAlone.{Asked, copied}
+use Rattle.channels.proofs.Channel as D
+use Rattle.channels.proofs.Channel.Laws as D′
 use Rattle.numbers.proofs.GainNumbers as O
 use Rattle.numbers.proofs.GainNumbers.Laws as O′
 use Rattle.numbers.proofs.channel_gain_numbers.Symbol as asked-def
@@ -11,7 +13,7 @@ use Rattle.muntinorris.proofs.muntinorris_channel_gains.Statement as st
 use Rattle.muntinorris.proofs.muntinorris_channel_gains.Code as code
 
 abbrev asked : Asked
-asked = record { name = asked-def.name; out = O.the-type; laws = O′.the-laws; plain = O′.the-plain; Told = λ c r. GainsToldOf c r }
+asked = record { name = asked-def.name; of = D.the-type; of-laws = D′.the-laws; of-plain = D′.the-plain; of-copy = D′.the-copy; out = O.the-type; laws = O′.the-laws; plain = O′.the-plain; Told = λ c r. GainsToldOf c r }
 
 pub muntinorris-channel-gains-spec : {M : Type 1} → stated.statement M
 unfolding code.routine

@@ -1,0 +1,78 @@
+-- The definition bites: what small logs come to, worked out on paper and computed here.
+-- Assumes nothing.
+use mathlib.Core.Path.{_≡_, refl}
+use mathlib.Core.List.{List, [], _∷_, _++_}
+use Prim.Native.Nat.{ℕ}
+use lib.ListN.{replicate}
+use Rattle.loops.specs.Passes.{upTo, total, filterBy, firstOf, count, padded}
+use Rattle.splitter.specs.Split.{begun, stored, oneDataByte, completed, dataByte, opened, ended, statusByte, split}
+use Rattle.message.specs.Message.{decode}
+use Rattle.table.specs.Table.{tableOf, startTable, listed}
+use Rattle.shares.specs.Shares.{sharesFrom, lookup, shareOf}
+use Rattle.sysex.specs.SysEx.{isMip, isSystemOn, kindOf, pairs, faulty, judged}
+use Rattle.drums.specs.Drums.{groupOf, excludes}
+use Rattle.ages.specs.Ages.{agesOf, newest}
+use Rattle.generators.specs.Generators.{assigned, silent}
+use Rattle.changes.specs.Changes.{changes, stateAfter, changed}
+use Rattle.silence.specs.Silence.{isAmong, leaves, silenced}
+use Rattle.choice.specs.Choice.{lowestIdle, wanted, oldest, busyCount}
+use Rattle.stealing.specs.Stealing.{overShare, stealFrom}
+use Rattle.allocation.specs.Allocation.{cleared, step5, choice, noteOn}
+use Rattle.instrument.specs.Instrument.{fresh, isRhythm}
+use Rattle.masking.specs.Masking.{masked}
+use Rattle.playing.specs.Playing.{playNoteOn, played}
+use Rattle.exclusive.specs.Exclusive.{newTable, mipTaken, exclusive}
+use Rattle.device.specs.Device.{started, heard, byteTaken}
+use Rattle.events.specs.declared.Event.{Event}
+use Rattle.events.specs.declared.Event.the-variants.{Byte, Report}
+use Rattle.events.specs.Events.{reportTaken, taken}
+use Rattle.reports.specs.Reports.{reported}
+use Rattle.log.specs.Log.{decimal, lineOf, loggable, eventOf, linesFrom}
+use Rattle.order.specs.Order.{each, isOrder}
+use Rattle.joint.specs.Joint.{busyOn}
+use Rattle.arranging.specs.declared.Written.{Written}
+use Rattle.arranging.specs.Arranging.{endsMip, losesNote, spoils, atLine, fault, behindLine, lookedAt, afterLine, records, largest, values, pairBytes, mipMessage, whole, refused, message}
+
+-- the channels as they are numbered
+abbrev pub one-to-sixteen : List ℕ
+one-to-sixteen = 1 ∷ 2 ∷ 3 ∷ 4 ∷ 5 ∷ 6 ∷ 7 ∷ 8 ∷ 9 ∷ 10 ∷ 11 ∷ 12 ∷ 13 ∷ 14 ∷ 15 ∷ 16 ∷ []
+
+-- a line for each event
+abbrev pub log : List Event → List ℕ
+log [] = []
+log (e ∷ l) = lineOf e ++ log l
+
+-- a note of channel 1 that ends, and then one of channel 2: together they are one at a time
+pub in-turn : message one-to-sixteen (log (Byte 0x90 ∷ Byte 60 ∷ Byte 64 ∷ Report 0 ∷ Byte 0x91 ∷ Byte 60 ∷ Byte 64 ∷ [])) ≡ whole one-to-sixteen (replicate 16 1) 7
+unfolding upTo total filterBy firstOf count padded begun stored oneDataByte completed dataByte opened ended statusByte split decode tableOf startTable listed sharesFrom lookup shareOf isMip isSystemOn kindOf pairs faulty judged groupOf excludes agesOf newest assigned silent changes stateAfter changed isAmong leaves silenced lowestIdle wanted oldest busyCount overShare stealFrom cleared step5 choice noteOn fresh isRhythm masked playNoteOn played started newTable mipTaken exclusive heard byteTaken taken reportTaken reported decimal lineOf loggable eventOf linesFrom each isOrder busyOn endsMip losesNote spoils atLine fault behindLine lookedAt afterLine records largest values pairBytes mipMessage message
+in-turn = refl
+
+-- a MIP message for ID 0, without pairs, up to its last byte
+abbrev mip : Event → List ℕ
+mip e = log (Byte 0xF0 ∷ Byte 0x7F ∷ Byte 0x00 ∷ Byte 0x0B ∷ Byte 0x01 ∷ e ∷ [])
+
+-- a MIP message for ID 0 that a status cuts has not ended; one that its F7 ends has, and without pairs too; then a line of another form is too late, and before it it isn't
+pub cut : message one-to-sixteen (mip (Byte 0x90)) ≡ whole one-to-sixteen (replicate 16 0) 6
+unfolding upTo firstOf count begun stored oneDataByte dataByte opened ended statusByte split isMip isSystemOn kindOf silent started fresh heard byteTaken taken decimal lineOf loggable eventOf linesFrom each isOrder total busyOn endsMip losesNote spoils atLine fault behindLine lookedAt afterLine records largest values message
+cut = refl
+
+pub ended-17 : message one-to-sixteen (mip (Byte 0xF7)) ≡ refused 17 6
+unfolding upTo firstOf count begun stored oneDataByte dataByte opened ended statusByte split isMip isSystemOn kindOf silent started fresh heard byteTaken taken decimal lineOf loggable eventOf linesFrom each isOrder total busyOn endsMip losesNote spoils atLine fault behindLine lookedAt afterLine records largest values message
+ended-17 = refl
+
+pub earlier-15 : message one-to-sixteen (0x0A ∷ mip (Byte 0xF7)) ≡ refused 15 1
+unfolding upTo firstOf count begun stored oneDataByte dataByte opened ended statusByte split isMip isSystemOn kindOf silent started fresh heard byteTaken taken decimal lineOf loggable eventOf linesFrom each isOrder total busyOn endsMip losesNote spoils atLine fault behindLine lookedAt afterLine records largest values message
+earlier-15 = refl
+
+-- a log that is faulty, and no order
+pub order-first : message [] (0x0A ∷ []) ≡ refused 16 0
+unfolding count each isOrder message
+order-first = refl
+
+-- beside a number, and in front of the pairs
+pub zeros : (refused 15 1 .bytes ≡ replicate 38 0) × (refused 15 1 .number ≡ 15) × (refused 15 1 .line ≡ 1)
+zeros = (refl, refl, refl)
+
+pub to-all-devices : mipMessage [] ≡ 0xF0 ∷ 0x7F ∷ 0x7F ∷ 0x0B ∷ 0x01 ∷ 0xF7 ∷ []
+unfolding pairBytes mipMessage
+to-all-devices = refl

@@ -1,0 +1,12 @@
+-- `arranging::has_fallen` meets its contract: the code's test is the definition's.
+-- Assumes nothing.
+use mathlib.Core.Path.{_≡_, refl}
+use borrow.Author.Needs.{needs}
+use Rattle.arranging.proofs.has_fallen.Statement.{statement}
+use Rattle.arranging.proofs.has_fallen.Tie as tie
+
+returns : tie.Need-returns
+returns c = refl
+
+pub has-fallen-spec : {M : Type 1} → statement M
+has-fallen-spec = tie.close (tie.spec returns)
