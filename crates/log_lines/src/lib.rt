@@ -137,7 +137,8 @@ pub fn all(c: Reading, bytes: &[u8]) -> Reading
     ensures { λ r. ⌜ r ≡ bytesRead c (now (bytes .entry)) ⌝ }
 {
     let run = c.run;
-    if c.ordered {
+    let ordered = c.ordered;
+    if ordered {
         return in_log(c.order, arranging::take(run, bytes));
     }
     let mut order = c.order;
@@ -169,10 +170,10 @@ pub fn is_known(c: Reading) -> bool
 pub fn end(c: Reading) -> Written
     ensures { λ r. ⌜ r ≡ ended c ⌝ }
 {
-    if !c.ordered {
-        return arranging::end(begin_log(c.order));
+    if c.ordered {
+        return arranging::end(c.run);
     }
-    arranging::end(c.run)
+    arranging::end(begin_log(c.order))
 }
 
 // ---- the answer

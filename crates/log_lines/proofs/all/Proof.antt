@@ -15,10 +15,10 @@ use Rattle.log_lines.proofs.all.Statement.{statement}
 use Rattle.log_lines.proofs.all.Tie as tie
 
 abbrev Inv-loop : tie.InvT-loop
-Inv-loop c bytes order₀ i₀ order i = (i ≤ length bytes) × (bytesRead (reading false order (c .run)) (drop i bytes) ≡ bytesRead (reading false order₀ (c .run)) bytes)
+Inv-loop c bytes ordered order₀ i₀ order i = (i ≤ length bytes) × (bytesRead (reading false order (c .run)) (drop i bytes) ≡ bytesRead (reading false order₀ (c .run)) bytes)
 
 abbrev μ-loop : tie.MeasureT-loop
-μ-loop c bytes order₀ i₀ order i = length bytes - i
+μ-loop c bytes ordered order₀ i₀ order i = length bytes - i
 
 take-requires : tie.Need-take-requires Inv-loop μ-loop
 take-requires c κs = search needs
