@@ -5,15 +5,13 @@ use mathlib.Core.Path.{_≡_, refl, sym, ap, _∙_}
 use mathlib.Core.Bool.{Bool, true, false}
 use mathlib.Core.List.{List, [], _∷_, map}
 use mathlib.Core.Option.{Option, some, none}
-use Prim.Native.Nat.{ℕ, _<_}
+use Prim.Native.Nat.{ℕ}
 use native.Mathlib.Omega.{arith}
 use lib.ListN.{length, replicate}
 use Rattle.loops.specs.Cases.{if_then_else_}
 use Rattle.loops.proofs.Fill.{length-upTo}
 use Rattle.table.specs.declared.Entry.{Entry}
-use Rattle.table.specs.Table.{entriesOf}
 use Rattle.device.specs.declared.Device.{Device}
-use Rattle.device.specs.declared.Output.{Output}
 use Rattle.events.specs.declared.Event.{Event}
 use Rattle.events.specs.Events.{taken}
 use Rattle.log.specs.Log.{eventOf, linesOf}
@@ -25,7 +23,7 @@ use Rattle.arranging.specs.declared.Run.{Run}
 use Rattle.arranging.specs.Run.{heard, joined, begun, finished}
 use Rattle.arranging.proofs.Bytes.{message-length}
 use Rattle.arranging.proofs.Parts.{heard-append, parts}
-use Rattle.arranged.specs.Laws.{valuesOf, fed, ReaderTakes, AllTight, ZerosBeside, heardParts, PartsMakeNoDifference}
+use Rattle.arranged.specs.Laws.{valuesOf, ReaderTakes, AllTight, ZerosBeside, heardParts, PartsMakeNoDifference}
 use Rattle.arranged.proofs.Reader.{reader-takes}
 use Rattle.arranged.proofs.Tight.{never-above, tight}
 

@@ -1,11 +1,11 @@
 -- In a log no number falls but those up to 11 and 13. A byte is answered with 3 to 11. A report is answered with 12 where its generator is not one of P; in a log P is 64 throughout,
 -- since no event changes it, and a line's generator is below 64.
 -- Assumes nothing.
-use mathlib.Core.Path.{_≡_, refl, sym, ap, _∙_}
+use mathlib.Core.Path.{_≡_, refl, sym, _∙_}
 use mathlib.Core.Bool.{Bool, true, false, _||_}
 use mathlib.Core.List.{List, [], _∷_, _++_}
 use mathlib.Core.Option.{Option, some, none}
-use Prim.Native.Nat.{ℕ, zero, suc, _%_, _≤_, _<_}
+use Prim.Native.Nat.{ℕ, zero, suc, _%_, _≤_}
 use native.Mathlib.Omega.{arith}
 use borrow.Author.Tests.{lt-leb}
 use lib.Dec.{eqb, leb, ltb}
@@ -24,7 +24,6 @@ use Rattle.table.specs.Table.{listed}
 use Rattle.shares.specs.Shares.{isMasked, shareOf}
 use Rattle.sysex.specs.declared.Kind.{Kind}
 use Rattle.sysex.specs.declared.Kind.the-variants.{Mip, SystemOn, Other}
-use Rattle.sysex.specs.declared.Judged.{Judged}
 use Rattle.sysex.specs.declared.Verdict.{Verdict}
 use Rattle.sysex.specs.declared.Verdict.the-variants.{Accepted, Refused}
 use Rattle.sysex.specs.SysEx.{kindOf, pairs, faulty, judgedBy, judged}
@@ -48,7 +47,6 @@ use Rattle.silence.specs.Silence.{silenced}
 use Rattle.instrument.specs.declared.Instrument.{Instrument}
 use Rattle.instrument.specs.Instrument as instrument
 use Rattle.other_messages.specs.OtherMessages.{playNoteOff, playControl}
-use Rattle.playing.specs.declared.Answer.{Answer}
 use Rattle.playing.specs.declared.Answer.the-variants as answer
 use Rattle.playing.specs.Playing.{replied, replyOf, playNoteOn, played, numberOf}
 use Rattle.exclusive.specs.Exclusive.{newTable, judgedReply, mipTaken, kindReply, exclusive}

@@ -1,15 +1,15 @@
 -- "Our reader must take every message so written and give back the same order and values": whatever record the message finds, F0 opens a SysEx, 36 data
 -- bytes fill it, and the F7 finds a MIP message for us without fault.
 -- Assumes nothing.
-use mathlib.Core.Path.{_≡_, refl, sym, ap, _∙_, subst}
-use mathlib.Core.Bool.{Bool, true, false, _&&_, _||_}
-use mathlib.Core.List.{List, [], _∷_, _++_, append-assoc, append-nil}
-use mathlib.Core.Option.{Option, some, none}
-use Prim.Native.Nat.{ℕ, zero, suc, _+_, _-_, _*_, _%_, _≤_, _<_}
+use mathlib.Core.Path.{_≡_, refl, sym, ap, _∙_}
+use mathlib.Core.Bool.{Bool, true, false, _||_}
+use mathlib.Core.List.{List, [], _∷_, _++_}
+use mathlib.Core.Option.{none}
+use Prim.Native.Nat.{ℕ, zero, suc, _+_, _-_, _≤_}
 use native.Mathlib.Omega.{arith}
 use borrow.Author.Tests.{lt-ltb, le-ltb, le-leb, eqb-true, eqb-false, ne-eqb}
-use lib.Dec.{eqb, leb, ltb}
-use lib.ListN.{length, take, drop, set, length-append}
+use lib.Dec.{eqb, ltb}
+use lib.ListN.{length, take, set}
 use lib.Seq.{take-all}
 use Rattle.loops.specs.Cases.{if_then_else_}
 use Rattle.loops.proofs.Tests.{or-left, or-right}
@@ -17,19 +17,17 @@ use Rattle.splitter.specs.declared.Parser.{Parser}
 use Rattle.splitter.specs.declared.Split.{Split}
 use Rattle.splitter.specs.declared.Completed.the-variants as completed
 use Rattle.splitter.specs.Split.{begun, stored, inSysEx, body, dataByte, opened, ended, statusByte, split}
-use Rattle.splitter.proofs.Bounds.{Bounded, bounded-begun, after, DataBytes, none, more, body-after}
+use Rattle.splitter.proofs.Bounds.{bounded-begun, after, DataBytes, none, more, body-after}
 use Rattle.table.specs.declared.Entry.{Entry}
-use Rattle.table.specs.Table.{entry, entriesOf, tableOf, listed}
+use Rattle.table.specs.Table.{entriesOf, tableOf, listed}
 use Rattle.table.specs.Laws.{Rising, Distinct, Channels}
 use Rattle.table.proofs.Places.{entries-of-table}
 use Rattle.sysex.specs.declared.Kind.the-variants.{Mip}
 use Rattle.sysex.specs.declared.Verdict.the-variants.{Accepted}
-use Rattle.sysex.specs.declared.Judged.{Judged}
-use Rattle.sysex.specs.SysEx.{isMip, kindOf, pairs, faulty, judgedBy, judged}
+use Rattle.sysex.specs.SysEx.{isMip, kindOf, pairs, faulty, judged}
 use Rattle.instrument.specs.declared.Instrument.{Instrument}
 use Rattle.playing.specs.declared.Answer.{Answer}
 use Rattle.playing.specs.declared.Answer.the-variants as answer
-use Rattle.playing.specs.declared.Reply.{Reply}
 use Rattle.playing.specs.Playing.{replied}
 use Rattle.device.specs.declared.Device.{Device}
 use Rattle.device.specs.declared.Output.{Output}

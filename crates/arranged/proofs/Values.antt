@@ -3,17 +3,15 @@
 use mathlib.Core.Path.{_≡_, refl, sym, ap, _∙_}
 use mathlib.Core.Bool.{Bool, true, false, _&&_, _||_}
 use mathlib.Core.List.{List, [], _∷_, _++_, append-assoc, append-nil}
-use Prim.Native.Nat.{ℕ, zero, suc, _+_, _≤_, _<_}
+use Prim.Native.Nat.{ℕ, zero, suc, _+_, _≤_}
 use native.Mathlib.Nat.{add-zero}
 use native.Mathlib.Omega.{arith}
 use lib.Dec.{eqb}
 use lib.ListN.{length, take}
 use Rattle.loops.specs.Cases.{bit}
 use Rattle.loops.specs.Passes.{upTo, total}
-use Rattle.loops.proofs.Totals.{bit-le, total-bits}
-use Rattle.table.specs.declared.Entry.{Entry}
+use Rattle.loops.proofs.Totals.{total-bits}
 use Rattle.table.specs.Laws.{Rising}
-use Rattle.generators.specs.declared.Generators.{Generators}
 use Rattle.generators.specs.Generators.{at, isBusy}
 use Rattle.device.specs.declared.Device.{Device}
 use Rattle.joint.specs.Joint.{among, busyOn, larger}

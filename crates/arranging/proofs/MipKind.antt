@@ -6,7 +6,6 @@ use mathlib.Core.List.{List}
 use Prim.Native.Nat.{ℕ}
 use native.Mathlib.Omega.{arith}
 use Rattle.loops.specs.Cases.{if_then_else_}
-use Rattle.sysex.specs.declared.Kind.{Kind}
 use Rattle.sysex.specs.declared.Kind.the-variants.{Mip, SystemOn, Other}
 use Rattle.sysex.specs.SysEx.{isMip, isSystemOn, kindOf}
 

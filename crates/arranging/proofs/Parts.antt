@@ -5,13 +5,13 @@ use mathlib.Core.Path.{_≡_, refl, sym, ap, _∙_}
 use mathlib.Core.Bool.{Bool, true, false, _||_}
 use mathlib.Core.List.{List, [], _∷_, _++_}
 use mathlib.Core.Option.{Option, some, none}
-use Prim.Native.Nat.{ℕ, zero, suc, _+_, _≤_, _<_}
+use Prim.Native.Nat.{ℕ, _+_, _≤_, _<_}
 use native.Mathlib.Nat.{add-zero}
 use native.Mathlib.Numerals.{add-one}
 use native.Mathlib.Omega.{arith}
-use borrow.Author.Tests.{ltb-true, ltb-false, eqb-true, ne-eqb, eq-eqb, le-ltb}
+use borrow.Author.Tests.{ltb-true, ltb-false, ne-eqb, eq-eqb}
 use lib.Dec.{eqb, ltb}
-use lib.ListN.{length, take, drop, set, drop-of-length-le, getD, replicate, length-append, length-take, length-set, length-replicate}
+use lib.ListN.{length, take, drop, set, drop-of-length-le, getD, replicate, length-append, length-take, length-set}
 use lib.Seq.{drop-cons, take-suc-set, take-all, take-append-le}
 use Rattle.loops.specs.Cases.{if_then_else_}
 use Rattle.loops.specs.Passes.{upTo}
@@ -26,7 +26,6 @@ use Rattle.log.proofs.Lines.{event-seven, event-unended, hasEnd}
 use Rattle.arranging.specs.declared.Written.{Written}
 use Rattle.arranging.specs.declared.Song.{Song}
 use Rattle.arranging.specs.declared.Run.{Run}
-use Rattle.order.specs.declared.Order.{Order}
 use Rattle.order.specs.Order.{isOrder, noOrder, orderOf}
 use Rattle.joint.specs.Joint.{larger, raised}
 use Rattle.arranging.specs.Arranging.{fresh, spoils, atLine, fault, behindLine, lookedAt, afterLine, records, largest, joint, values, told, whole, refused, writtenBy, message}

@@ -1,14 +1,12 @@
 -- An event that is answered *none* moves no generator: of what a byte completes, only nothing and a SysEx that is not for us answer none, and a report never does.
 -- Assumes nothing.
-use mathlib.Core.Path.{_≡_, refl, sym, ap, _∙_}
+use mathlib.Core.Path.{_≡_, refl, _∙_}
 use mathlib.Core.Bool.{Bool, true, false, _&&_}
 use mathlib.Core.List.{List}
-use Prim.Native.Nat.{ℕ, _≤_}
+use Prim.Native.Nat.{ℕ}
 use native.Mathlib.Omega.{arith}
 use lib.Dec.{leb}
-use lib.ListN.{getD, replicate}
 use Rattle.loops.specs.Cases.{if_then_else_, bit}
-use Rattle.loops.specs.Passes.{total}
 use Rattle.loops.proofs.Padded as padded
 use Rattle.loops.proofs.Totals.{total-zero, total-same}
 use Rattle.splitter.specs.declared.Parser.{Parser}
@@ -30,7 +28,6 @@ use Rattle.allocation.specs.declared.Taken.the-variants as took
 use Rattle.allocation.specs.Allocation.{noteOn}
 use Rattle.instrument.specs.declared.Instrument.{Instrument}
 use Rattle.instrument.specs.Instrument as instrument
-use Rattle.playing.specs.declared.Reply.{Reply}
 use Rattle.playing.specs.declared.Answer.the-variants as answer
 use Rattle.playing.specs.Playing.{replied, replyOf, playNoteOn, played}
 use Rattle.silence.specs.declared.Leaving.the-variants.{One}

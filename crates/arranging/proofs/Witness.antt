@@ -30,7 +30,6 @@ use Rattle.reports.specs.Reports.{reported}
 use Rattle.log.specs.Log.{decimal, lineOf, loggable, eventOf, linesFrom}
 use Rattle.order.specs.Order.{each, isOrder}
 use Rattle.joint.specs.Joint.{busyOn}
-use Rattle.arranging.specs.declared.Written.{Written}
 use Rattle.arranging.specs.Arranging.{endsMip, losesNote, spoils, atLine, fault, behindLine, lookedAt, afterLine, records, largest, values, pairBytes, mipMessage, whole, refused, message}
 
 -- the channels as they are numbered

@@ -1,10 +1,10 @@
 -- What the loops over an order cite: a channel looked for among the first n, and one channel more in a joint count: it adds nothing where it stood before, and else
 -- its busy generators.
 -- Assumes nothing.
-use mathlib.Core.Path.{_≡_, refl, sym, ap, _∙_}
+use mathlib.Core.Path.{_≡_, refl, ap, _∙_}
 use mathlib.Core.Bool.{Bool, true, false, _&&_, _||_}
 use mathlib.Core.List.{List, [], _∷_, _++_}
-use Prim.Native.Nat.{ℕ, zero, suc, _+_, _≤_, _<_}
+use Prim.Native.Nat.{ℕ, _+_, _≤_, _<_}
 use native.Mathlib.Numerals.{add-one}
 use native.Mathlib.Omega.{arith}
 use borrow.Author.Tests.{eqb-true}
@@ -15,7 +15,7 @@ use Rattle.loops.specs.Cases.{if_then_else_, bit}
 use Rattle.loops.specs.Passes.{total}
 use Rattle.loops.proofs.Totals.{total-zero, total-same, total-add, total-bits}
 use Rattle.generators.specs.declared.Generators.{Generators}
-use Rattle.generators.specs.Generators.{Generator, at, isBusy, isBusyOn}
+use Rattle.generators.specs.Generators.{at, isBusy, isBusyOn}
 use Rattle.choice.specs.Choice.{busyCount}
 use Rattle.joint.specs.Joint.{among, busyOn}
 

@@ -1,14 +1,13 @@
 -- A line that a function owns holds seven bytes; what it says by its count.
 -- Assumes nothing.
-use mathlib.Core.Path.{_≡_, refl, sym, ap, _∙_}
+use mathlib.Core.Path.{_≡_, refl, ap, _∙_}
 use mathlib.Core.List.{List, [], _∷_}
-use mathlib.Core.Option.{Option, some, none}
-use Prim.Native.Nat.{ℕ, _≤_, _<_}
+use mathlib.Core.Option.{none}
+use Prim.Native.Nat.{ℕ}
 use native.Mathlib.Omega.{arith}
 use mir.Val.{Val}
 use denote.Laws.{Is}
 use lib.ListN.{length, take, getD, length-map, length-take}
-use Rattle.events.specs.declared.Event.{Event}
 use Rattle.log.specs.declared.Line.{Line}
 use Rattle.log.specs.Log.{eventOf}
 use Rattle.log.specs.Parse.{parse}

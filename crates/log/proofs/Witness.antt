@@ -1,9 +1,8 @@
 -- The definitions bite: lines and what they say, written out.
 -- Assumes nothing.
 use mathlib.Core.Path.{_≡_, refl}
-use mathlib.Core.List.{List, [], _∷_, _++_}
+use mathlib.Core.List.{[], _∷_}
 use mathlib.Core.Option.{some, none}
-use Prim.Native.Nat.{ℕ}
 use Rattle.loops.specs.Passes.{upTo, firstOf}
 use Rattle.events.specs.declared.Event.the-variants.{Byte, Report}
 use Rattle.log.specs.Log.{decimal, lineOf, loggable, eventOf, linesFrom, linesOf}

@@ -13,9 +13,8 @@ use borrow.Author.Tests.{eq-eqb, ne-eqb, not-true}
 use Rattle.loops.specs.Cases.{if_then_else_}
 use Rattle.fields.proofs.Numbers.{both}
 use Rattle.arranging.specs.declared.Run.{Run}
-use Rattle.arranging.specs.declared.Written.{Written}
 use Rattle.arranging.specs.Arranging.{message}
-use Rattle.arranging.specs.Run.{joined, begun, byteHeard, heard, finished}
+use Rattle.arranging.specs.Run.{joined, begun, byteHeard, heard}
 use Rattle.arranging.proofs.Parts.{stays, parts}
 use Rattle.log_lines.specs.declared.OrderLine.{OrderLine}
 use Rattle.log_lines.specs.declared.Reading.{Reading}

@@ -11,12 +11,11 @@ use lib.ListN.{length, take, set, length-set}
 use lib.Seq.{take-suc-set}
 use borrow.Author.Tests.{lt-ltb, le-ltb, ltb-true, ltb-false, le-leb, lt-leb, leb-true, ne-eqb, not-true}
 use Rattle.loops.specs.Cases.{if_then_else_, atMost}
-use Rattle.fields.specs.declared.Line.{Line}
 use Rattle.fields.specs.Line.{newLine, malformed, kept, isDigit, afterDigit, afterComma, read}
 use Rattle.fields.specs.Fields.{isField, areFields, numberFrom, isNumber, spelled}
 use Rattle.fields.proofs.Numbers.{both, at, kept-digit}
 use Rattle.log_lines.specs.declared.OrderLine.{OrderLine}
-use Rattle.log_lines.specs.LogLines.{orderLine, newOrder, lost, isPut, putAway, orderByte, orderBytes, lookedAt, orderIn, parted, areNumbers, channelIn, fieldsOrder}
+use Rattle.log_lines.specs.LogLines.{orderLine, newOrder, lost, isPut, putAway, orderByte, orderBytes, orderIn, parted, areNumbers, channelIn, fieldsOrder}
 
 -- there is a place for a number that is put away
 pub has-place : (c : OrderLine) → isPut c ≡ true → c .count < 16

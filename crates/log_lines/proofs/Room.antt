@@ -1,12 +1,12 @@
 -- The line of an answer has at most 139 bytes: a number of at most three digits, a line of at most twenty, 38 bytes of two digits and 37 blanks, two commas and its end. So it stands whole where there is room.
 -- Assumes nothing.
-use Prim.Native.Nat.{ℕ, zero, suc, _+_, _*_, _-_, _≤_, _<_}
+use Prim.Native.Nat.{ℕ, _+_, _*_, _-_, _≤_, _<_}
 use mathlib.Core.Path.{_≡_}
 use mathlib.Core.List.{List, [], _∷_, _++_}
 use native.Mathlib.Omega.{arith}
 use lib.ListN.{length, take, drop, length-append, length-take}
 use lib.Seq.{take-at}
-use Rattle.text.specs.Text.{Put, decimalWithin, decimal, hexadecimal, hexadecimals}
+use Rattle.text.specs.Text.{Put, decimal, hexadecimals}
 use Rattle.text.proofs.Joined.{whole}
 use Rattle.fields.proofs.Written.{decimal-length}
 use Rattle.arranging.specs.declared.Written.{Written}

@@ -1,7 +1,7 @@
 -- A function that is lent a log's record to change and bytes to read, and answers a number: a record that a function by value gave is stored whole behind the borrow, and its number read.
 -- What two such walks share: the contract, by what the record becomes; the end of the code, from the store on; what is handed back; and the step from the walk to the contract.
 -- Assumes nothing.
-use mathlib.Core.Path.{_≡_, refl, ap, _∙_}
+use mathlib.Core.Path.{_≡_, refl, ap}
 use Prim.Native.Nat.{ℕ}
 use mathlib.Core.List.{[], _∷_, List}
 use lib.ListN.{length}
@@ -36,7 +36,7 @@ use denote.Triple.Clauses.{Ended, Clauses, closing}
 use denote.Triple.Entry.{onEntry}
 use denote.Triple.Spec.{Meets, tripleOf}
 use denote.Triple.Table.{entered}
-use denote.Triple.Walked.{says, Stays, stay-ref, stay-none-slice, walkOf, AllGo, goes-ref, goes-none-slice, Walks, ends-at, walked, walk-meets}
+use denote.Triple.Walked.{says, Stays, stay-ref, stay-none-slice, walkOf, AllGo, goes-ref, goes-none-slice, ends-at, walked, walk-meets}
 use denote.Exit.{yes}
 use Rattle.arranging.specs.declared.Run.{Run}
 use Rattle.arranging.proofs.Run as R

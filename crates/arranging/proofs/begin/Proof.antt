@@ -1,6 +1,6 @@
 -- `arranging::begin` meets its contract: the order is read by crate `order`.
 -- Assumes nothing.
-use mathlib.Core.Path.{_≡_, refl, ap, _∙_}
+use mathlib.Core.Path.{ap, _∙_}
 use Rattle.arranging.specs.Run.{begunBy}
 use borrow.Author.Needs.{needs}
 use Rattle.arranging.proofs.begin.Statement.{statement}

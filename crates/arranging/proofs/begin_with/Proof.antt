@@ -1,6 +1,5 @@
 -- `arranging::begin_with` meets its contract: the record of a start, no line yet, and 16 where there is no order.
 -- Assumes nothing.
-use mathlib.Core.Path.{_≡_, refl}
 use Rattle.arranging.specs.Run.{begunBy}
 use borrow.Author.Needs.{needs}
 use Rattle.arranging.proofs.begin_with.Statement.{statement}

@@ -1,13 +1,8 @@
 -- `arranging::byte_at` meets its contract: the head, the end, and between them a channel or a value by the place's parity.
 -- Assumes nothing.
-use Prim.Native.Nat.{ℕ, _+_, _-_, _*_, _/_, _%_, _≤_, _<_}
-use mathlib.Core.Path.{_≡_, refl, sym, ap, _∙_}
-use mathlib.Core.Bool.{true, false}
-use mathlib.Core.List.{List, _++_}
+use Prim.Native.Nat.{_-_, _/_, _%_}
+use mathlib.Core.Path.{_≡_, _∙_}
 use native.Mathlib.Omega.{arith}
-use lib.Dec.{eqb}
-use lib.ListN.{length, take, drop, getD}
-use lib.Seq.{take-all}
 use Rattle.arranging.proofs.Bytes.{byte-head, byte-last, byte-channel, byte-value, odd}
 use borrow.Author.Needs.{needs}
 use Rattle.arranging.proofs.byte_at.Statement.{statement}

@@ -1,6 +1,6 @@
 -- `arranging::end` meets its contract: a number that fell is told, else the song ends.
 -- Assumes nothing.
-use mathlib.Core.Path.{_≡_, refl, sym, ap, _∙_}
+use mathlib.Core.Path.{sym, _∙_}
 use borrow.Author.Tests.{not-true, not-false}
 use lib.Dec.{eqb}
 use Rattle.arranging.specs.Run.{finished}

@@ -1,6 +1,5 @@
 -- `arranging::end_song` meets its contract: the code's test is the definition's.
 -- Assumes nothing.
-use mathlib.Core.Path.{_≡_, refl, sym, ap, _∙_}
 use borrow.Author.Tests.{eq-eqb, ne-eqb}
 use Rattle.arranging.specs.Run.{endedBy}
 use borrow.Author.Needs.{needs}

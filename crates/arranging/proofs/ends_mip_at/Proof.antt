@@ -1,8 +1,6 @@
 -- `arranging::ends_mip_at` meets its contract: the code's branch is the definition's `&&`.
 -- Assumes nothing.
-use mathlib.Core.Path.{_≡_, refl, sym, ap, _∙_}
-use mathlib.Core.Bool.{Bool, true, false, _&&_}
-use Rattle.splitter.specs.declared.Completed.{Completed}
+use mathlib.Core.Path.{sym, ap, _∙_}
 use Rattle.arranging.specs.Arranging.{isSysEx}
 use borrow.Author.Needs.{needs}
 use Rattle.arranging.proofs.ends_mip_at.Statement.{statement}

@@ -1,7 +1,6 @@
 -- `arranging::has_fallen` meets its contract: the code's test is the definition's.
 -- Assumes nothing.
-use mathlib.Core.Path.{_≡_, refl}
-use borrow.Author.Needs.{needs}
+use mathlib.Core.Path.{refl}
 use Rattle.arranging.proofs.has_fallen.Statement.{statement}
 use Rattle.arranging.proofs.has_fallen.Tie as tie
 

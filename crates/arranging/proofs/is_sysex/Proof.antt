@@ -1,6 +1,5 @@
 -- `arranging::is_sysex` meets its contract, case by case.
 -- Assumes nothing.
-use Rattle.arranging.specs.Arranging.{isSysEx}
 use borrow.Author.Needs.{needs}
 use Rattle.arranging.proofs.is_sysex.Statement.{statement}
 use Rattle.arranging.proofs.is_sysex.Tie as tie

@@ -1,7 +1,5 @@
 -- `arranging::one_more` meets its contract: below the last number that is told the next one is told as it is.
 -- Assumes nothing.
-use mathlib.Core.Path.{_≡_, refl}
-use Prim.Native.Nat.{ℕ, _+_, _≤_, _<_}
 use native.Mathlib.Omega.{arith}
 use Rattle.arranging.proofs.Told.{told-next, told-last}
 use borrow.Author.Needs.{needs}

@@ -1,6 +1,6 @@
 -- `arranging::play_line` meets its contract: behind a number no line is looked at; else what `log::read` says of the line is played.
 -- Assumes nothing.
-use mathlib.Core.Path.{_≡_, refl, sym, ap, _∙_}
+use mathlib.Core.Path.{sym, ap, _∙_}
 use borrow.Author.Tests.{not-true, not-false}
 use lib.Dec.{eqb}
 use Rattle.log.specs.Log.{eventOf, textOf}

@@ -1,6 +1,5 @@
 -- `arranging::stop` meets its contract: the record made is the definition's.
 -- Assumes nothing.
-use mathlib.Core.Path.{refl}
 use Rattle.arranging.specs.Run.{stopped}
 use borrow.Author.Needs.{needs}
 use Rattle.arranging.proofs.stop.Statement.{statement}

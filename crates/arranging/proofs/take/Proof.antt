@@ -1,9 +1,9 @@
 -- `arranging::take` meets its contract. Invariant: what is left of the part, heard by the song and the line so far, is the whole part heard by the run.
 -- Assumes nothing.
-use Prim.Native.Nat.{ℕ, _+_, _-_, _≤_, _<_}
+use Prim.Native.Nat.{_-_, _≤_}
 use mathlib.Core.Path.{_≡_, refl, sym, ap, _∙_}
 use native.Mathlib.Omega.{arith}
-use lib.ListN.{length, drop, getD}
+use lib.ListN.{length, drop}
 use Rattle.log.specs.declared.Line.{Line}
 use Rattle.log.specs.Log.{textOf}
 use Rattle.arranging.specs.Run.{linePlayed, run, heard}

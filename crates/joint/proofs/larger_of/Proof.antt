@@ -1,7 +1,6 @@
 -- `joint::larger_of` meets its contract: the code's test is the definition's.
 -- Assumes nothing.
 use borrow.Author.Tests.{lt-ltb, le-ltb}
-use borrow.Author.Needs.{needs}
 use Rattle.joint.proofs.larger_of.Statement.{statement}
 use Rattle.joint.proofs.larger_of.Tie as tie
 

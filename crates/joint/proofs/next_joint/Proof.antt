@@ -1,13 +1,9 @@
 -- `joint::next_joint` meets its contract: a channel that stood before adds nothing, another adds its busy generators.
 -- Assumes nothing.
-use Prim.Native.Nat.{ℕ, _+_, _-_, _*_, _/_, _%_, _≤_, _<_}
-use mathlib.Core.Path.{_≡_, refl, sym, ap, _∙_}
-use mathlib.Core.Bool.{true, false}
-use mathlib.Core.List.{List, _++_}
+use Prim.Native.Nat.{_+_, _-_}
+use mathlib.Core.Path.{sym, _∙_}
 use native.Mathlib.Omega.{arith}
-use lib.Dec.{eqb}
-use lib.ListN.{length, take, drop, getD}
-use lib.Seq.{take-all}
+use lib.ListN.{take}
 use Rattle.joint.proofs.Channels.{joint-same, joint-more, busy-64}
 use borrow.Author.Needs.{needs}
 use Rattle.joint.proofs.next_joint.Statement.{statement}

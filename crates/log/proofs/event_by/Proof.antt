@@ -3,8 +3,8 @@
 use Prim.Native.Nat.{_<_}
 use lib.Dec.{eqb, ltb}
 use borrow.Author.Needs.{needs}
-use borrow.Author.Tests.{lt-ltb, le-ltb, ltb-true}
-use Rattle.log.specs.Parse.{right, eventBy, parse}
+use borrow.Author.Tests.{ltb-true}
+use Rattle.log.specs.Parse.{eventBy}
 use Rattle.loops.proofs.Tests.{and-right}
 use Rattle.log.proofs.event_by.Statement.{statement}
 use Rattle.log.proofs.event_by.Tie as tie

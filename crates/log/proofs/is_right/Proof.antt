@@ -1,7 +1,7 @@
 -- `log::is_right` meets its contract: the code's test is the definition's.
 -- Assumes nothing.
 use mathlib.Core.Path.{refl}
-use Rattle.log.specs.Parse.{right, eventBy, parse}
+use Rattle.log.specs.Parse.{right}
 use Rattle.log.proofs.is_right.Statement.{statement}
 use Rattle.log.proofs.is_right.Tie as tie
 

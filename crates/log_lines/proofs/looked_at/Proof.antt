@@ -1,9 +1,7 @@
 -- `log_lines::looked_at`: all of up to sixteen, and of more none.
 -- Assumes nothing.
-use mathlib.Core.Path.{refl}
 use native.Mathlib.Omega.{arith}
 use borrow.Author.Tests.{le-leb, lt-leb}
-use borrow.Author.Needs.{needs}
 use Rattle.log_lines.proofs.looked_at.Statement.{statement}
 use Rattle.log_lines.proofs.looked_at.Tie as tie
 

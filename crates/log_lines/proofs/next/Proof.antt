@@ -1,8 +1,6 @@
 -- `log_lines::next`: a comma ends a number, and any other byte is read into it.
 -- Assumes nothing.
-use mathlib.Core.Path.{ap}
 use borrow.Author.Tests.{eq-eqb, ne-eqb}
-use Rattle.fields.specs.declared.Line.{Line}
 use Rattle.log_lines.specs.LogLines.{orderByte}
 use borrow.Author.Needs.{needs}
 use Rattle.log_lines.proofs.next.Statement.{statement}

@@ -1,6 +1,6 @@
 -- `order::read` meets its contract: the length and the counts are the definition's two tests.
 -- Assumes nothing.
-use mathlib.Core.Path.{_≡_, refl, sym, ap, _∙_}
+use mathlib.Core.Path.{sym, _∙_}
 use borrow.Author.Tests.{eq-eqb, ne-eqb}
 use Rattle.order.specs.Order.{isOrder, orderOf}
 use borrow.Author.Needs.{needs}

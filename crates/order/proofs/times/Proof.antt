@@ -1,14 +1,11 @@
 -- `order::times` meets its contract. Invariant: n is how often c stands among the first i.
 -- Assumes nothing.
-use Prim.Native.Nat.{ℕ, _+_, _-_, _*_, _/_, _%_, _≤_, _<_}
-use mathlib.Core.Path.{_≡_, refl, sym, ap, _∙_}
-use mathlib.Core.Bool.{true, false}
-use mathlib.Core.List.{List, _++_}
+use Prim.Native.Nat.{ℕ, _-_, _≤_}
+use mathlib.Core.Path.{_≡_, refl, ap, _∙_}
+use mathlib.Core.List.{List}
 use native.Mathlib.Omega.{arith}
-use lib.Dec.{eqb}
-use lib.ListN.{length, take, drop, getD}
+use lib.ListN.{length, take}
 use lib.Seq.{take-all}
-use Rattle.loops.specs.Cases.{bit}
 use Rattle.loops.specs.Passes.{count}
 use Rattle.order.specs.Order.{times}
 use Rattle.order.proofs.Counting.{times-next}

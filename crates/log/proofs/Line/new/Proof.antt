@@ -1,7 +1,7 @@
 -- `log::Line::new` meets its contract: the record made is the definition's.
 -- Assumes nothing.
 use mathlib.Core.Path.{refl}
-use Rattle.log.specs.Log.{blank, put, textOf, eventOf, meaningOf}
+use Rattle.log.specs.Log.{blank}
 use Rattle.log.proofs.Line.new.Statement.{statement}
 use Rattle.log.proofs.Line.new.Tie as tie
 

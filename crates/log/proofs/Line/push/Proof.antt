@@ -1,7 +1,7 @@
 -- `log::Line::push` meets its contract: below 7 the byte goes to the place of the count, from 7 on nothing changes.
 -- Assumes nothing.
-use borrow.Author.Tests.{lt-ltb, le-ltb, ltb-true}
-use Rattle.log.specs.Log.{blank, put, textOf, eventOf, meaningOf}
+use borrow.Author.Tests.{lt-ltb, le-ltb}
+use Rattle.log.specs.Log.{put}
 use borrow.Author.Needs.{needs}
 use Rattle.log.proofs.Line.push.Statement.{statement}
 use Rattle.log.proofs.Line.push.Tie as tie
