@@ -18,7 +18,7 @@ use Rattle.arranging.specs.Run.{joined, begun, byteHeard, heard}
 use Rattle.arranging.proofs.Parts.{stays, parts}
 use Rattle.log_lines.specs.declared.OrderLine.{OrderLine}
 use Rattle.log_lines.specs.declared.Reading.{Reading}
-use Rattle.log_lines.specs.LogLines.{newOrder, orderByte, orderBytes, orderIn, reading, newReading, byteRead, bytesRead, isKnown, ended, firstLine, behindFirst, arranged}
+use Rattle.log_lines.specs.LogLines.{newOrder, orderByte, orderBytes, orderIn, reading, newReading, byteRead, bytesRead, isKnown, ended, messageOf, writtenLine, firstLine, behindFirst, arranged, outputOf, errorOf}
 
 -- ---- the bytes of a read
 
@@ -99,3 +99,20 @@ known c bs e =
     let p = both (c .ordered) (not (eqb (c .run .song .number) 0)) e in
     let n = not-true (eqb (c .run .song .number) 0) (p .1) in
     rw (in-log c bs (p .0), p .0) (stays bs (c .run .song) (c .run .line) n ∙ sym (stays [] (c .run .song) (c .run .line) n))
+
+-- so the answer that is given at once is that of the whole input
+pub at-once : (ps : List (List ℕ)) (rest : List ℕ) → isKnown (partsRead newReading ps) ≡ true → ended (partsRead newReading ps) ≡ arranged (joined ps ++ rest)
+at-once ps rest e =
+    sym (known (partsRead newReading ps) rest e)
+    ∙ ap (λ (c : Reading). ended (bytesRead c rest)) (parts-read newReading ps)
+    ∙ ap ended (sym (read-append newReading (joined ps) rest))
+    ∙ input-read (joined ps ++ rest)
+
+-- ---- what is written of it
+
+-- a page that has room for what is put at its start has it whole before the place that is answered
+pub output-written : (ps : List (List ℕ)) (page : List ℕ) (used : ℕ) → take used page ≡ messageOf (ended (partsRead newReading ps)) → take used page ≡ outputOf (joined ps)
+output-written ps page used e = e ∙ ap messageOf (any-parts ps)
+
+pub error-written : (ps : List (List ℕ)) (page : List ℕ) (used : ℕ) → take used page ≡ writtenLine (ended (partsRead newReading ps)) → take used page ≡ errorOf (joined ps)
+error-written ps page used e = e ∙ ap writtenLine (any-parts ps)

@@ -104,6 +104,13 @@ behindFirst (b ∷ bs) = if eqb b 10 then bs else behindFirst bs
 unfoldable pub arranged : List ℕ → Written
 arranged input = message (orderIn (orderBytes newOrder (firstLine input))) (behindFirst input)
 
+-- and what standard output and standard error get for it
+abbrev pub outputOf : List ℕ → List ℕ
+outputOf input = messageOf (arranged input)
+
+abbrev pub errorOf : List ℕ → List ℕ
+errorOf input = writtenLine (arranged input)
+
 -- ---- the order's line by its fields, cut at its commas (crate `fields`, specs/Fields); that it is read so is in proofs/Sentences.antt
 
 -- a comma before each field
