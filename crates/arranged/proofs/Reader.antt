@@ -17,7 +17,7 @@ use Rattle.splitter.specs.declared.Parser.{Parser}
 use Rattle.splitter.specs.declared.Split.{Split}
 use Rattle.splitter.specs.declared.Completed.the-variants as completed
 use Rattle.splitter.specs.Split.{begun, stored, inSysEx, body, dataByte, opened, ended, statusByte, split}
-use Rattle.splitter.proofs.Bounds.{bounded-begun, after, DataBytes, none, more, body-after}
+use Rattle.splitter.proofs.Bounds.{bounded-begun, after, DataBytes, none, more, body-after, split-open, stays-open}
 use Rattle.table.specs.declared.Entry.{Entry}
 use Rattle.table.specs.Table.{entriesOf, tableOf, listed}
 use Rattle.table.specs.Laws.{Rising, Distinct, Channels}
@@ -99,24 +99,10 @@ data-bytes f h (c ∷ l) m i (suc n) =
 
 -- ---- an open SysEx
 
-split-data : (p : Parser) (b : ℕ) → inSysEx p ≡ true → ltb b 0x80 ≡ true → split p b ≡ record { parser = stored p b; completed = completed.Nothing }
-unfolding split dataByte
-split-data p b o d =
-    let s : p .status ≡ 0xF0 = eqb-true (p .status) 0xF0 o in
-    rw (d, le-ltb (p .status) 0x80 (omega arith), o)
-
-still-open : (p : Parser) (b : ℕ) → inSysEx p ≡ true → inSysEx (stored p b) ≡ true
-unfolding stored
-still-open p b o = go (ltb (p .count) 37)
-  where
-    go : (t : Bool) → inSysEx (if t then record { status = p .status; count = p .count + 1; bytes = set (p .bytes) (p .count) b } else p) ≡ true
-    go true = o
-    go false = o
-
 open-after : (p : Parser) (l : List ℕ) → inSysEx p ≡ true → DataBytes l → inSysEx (after p l) ≡ true
 unfolding after
 open-after p [] o none = o
-open-after p (b ∷ l) o (more d ds) = ap (λ (s : Split). inSysEx (after (s .parser) l)) (split-data p b o d) ∙ open-after (stored p b) l (still-open p b o) ds
+open-after p (b ∷ l) o (more d ds) = ap (λ (s : Split). inSysEx (after (s .parser) l)) (split-open p b o d) ∙ open-after (stored p b) l (stays-open p b o) ds
 
 abbrev deviceOf : Parser → Instrument → Device
 deviceOf p i = record { parser = p; instrument = i }
@@ -136,9 +122,9 @@ fills : (a : Answer) (p : Parser) (i : Instrument) (l : List ℕ) → inSysEx p 
 unfolding fed after byteTaken heard
 fills a p i [] o none = refl
 fills a p i (b ∷ l) o (more d ds) =
-    ap (λ (s : Split). fed (outputOf (s .parser) (heard i p (s .completed))) l .device) (split-data p b o d)
-    ∙ fills answer.Nothing (stored p b) i l (still-open p b o) ds
-    ∙ ap (λ (s : Split). deviceOf (after (s .parser) l) i) (sym (split-data p b o d))
+    ap (λ (s : Split). fed (outputOf (s .parser) (heard i p (s .completed))) l .device) (split-open p b o d)
+    ∙ fills answer.Nothing (stored p b) i l (stays-open p b o) ds
+    ∙ ap (λ (s : Split). deviceOf (after (s .parser) l) i) (sym (split-open p b o d))
 
 fed-last : (o : Output) (l : List ℕ) (b : ℕ) → fed o (l ++ (b ∷ [])) ≡ byteTaken (fed o l .device) b
 unfolding fed

@@ -10,7 +10,7 @@ use lib.Dec.{eqb}
 use lib.ListN.{length, take}
 use Rattle.loops.specs.Cases.{bit}
 use Rattle.loops.specs.Passes.{upTo, total}
-use Rattle.loops.proofs.Totals.{total-bits}
+use Rattle.loops.proofs.Totals.{total-le, total-bits}
 use Rattle.table.specs.Laws.{Rising}
 use Rattle.generators.specs.Generators.{at, isBusy}
 use Rattle.device.specs.declared.Device.{Device}
@@ -19,11 +19,6 @@ use Rattle.arranging.specs.Arranging.{largest, joint, values, listing}
 use Rattle.arranging.proofs.Largest.{larger-left, larger-right, larger-le}
 
 -- ---- joint counts
-
-total-le : (f g : ℕ → ℕ) (n : ℕ) → ((i : ℕ) → f i ≤ g i) → total f n ≤ total g n
-unfolding total
-total-le f g zero h = omega arith
-total-le f g (suc n) h = let k = total-le f g n h in let l = h n in omega arith
 
 -- one channel more
 among-more : (b : Bool) (c k : ℕ) (l : List ℕ) → bit (b && among c (take k l)) ≤ bit (b && among c (take (suc k) l))

@@ -1,22 +1,24 @@
 -- The claims bite. First their words: a claim or a clause that is narrowed or emptied behind its name would not give these facts. Then one log of which all of them speak.
 -- Assumes nothing.
-use mathlib.Core.Path.{_≡_, ap}
+use mathlib.Core.Path.{_≡_, refl, ap}
 use mathlib.Core.List.{List, [], _∷_, map}
 use mathlib.Core.Option.{some}
-use Prim.Native.Nat.{ℕ, _-_, _≤_, _<_}
+use Prim.Native.Nat.{ℕ, suc, _-_, _≤_, _<_}
 use lib.ListN.{length, getD, replicate}
 use Rattle.table.specs.declared.Entry.{Entry}
 use Rattle.table.specs.Table.{entriesOf}
 use Rattle.playing.specs.declared.Answer.the-variants as answer
 use Rattle.playing.specs.Playing.{numberOf}
 use Rattle.device.specs.declared.Output.{Output}
+use Rattle.device.specs.Device.{byteTaken}
 use Rattle.events.specs.declared.Event.{Event}
 use Rattle.events.specs.declared.Event.the-variants.{Byte, Report}
 use Rattle.events.specs.Events.{taken}
 use Rattle.log.specs.Log.{eventOf, linesOf}
+use Rattle.arranging.specs.declared.Run.{Run}
 use Rattle.arranging.specs.declared.Written.{Written}
-use Rattle.arranging.specs.Arranging.{joint, message}
-use Rattle.arranging.specs.Run.{joined, begun, finished}
+use Rattle.arranging.specs.Arranging.{fresh, records, joint, values, message}
+use Rattle.arranging.specs.Run.{heard, joined, begun, finished}
 use Rattle.arranging.proofs.Witness.{one-to-sixteen, log, in-turn}
 use Rattle.arranged.specs.Laws.{fed, valuesOf, recordAfter, GivenBack, ReaderTakes, Tight, AllTight, ZerosBeside, recordBefore, NoOtherNumber, heardParts, PartsMakeNoDifference}
 use Rattle.arranged.proofs.Message.{given-back}
@@ -40,6 +42,27 @@ module _ (order l : List ℕ) (k : ℕ) (h : Tight order l k) where
   pub exceeded-if-lower : 0 < getD (valuesOf order l) k 0
       → (j : ℕ) × ((j < length (linesOf l)) × (getD (valuesOf order l) k 0 - 1 < joint order k (recordAfter l j)))
   exceeded-if-lower = h .needed
+
+-- the words that they are said with: bytes go to the device they are given, one after another; parts go one after another; line j finds what the line before it left; a log's values and records
+-- are those of its lines
+pub fed-on : (o : Output) (a b : ℕ) → fed o (a ∷ b ∷ []) ≡ byteTaken (byteTaken (o .device) a .device) b
+unfolding fed
+fed-on o a b = refl
+
+pub part-by-part : (r : Run) (p q : List ℕ) → heardParts r (p ∷ q ∷ []) ≡ heard (heard r p) q
+part-by-part r p q = refl
+
+pub found-fresh : (l : List ℕ) → recordBefore l 0 ≡ fresh
+found-fresh l = refl
+
+pub found-after : (l : List ℕ) (j : ℕ) → recordBefore l (suc j) ≡ recordAfter l j
+found-after l j = refl
+
+pub record-after : (l : List ℕ) (j : ℕ) → recordAfter l j ≡ getD (records fresh (linesOf l)) j fresh
+record-after l j = refl
+
+pub values-of : (order l : List ℕ) → valuesOf order l ≡ values order (records fresh (linesOf l))
+values-of order l = refl
 
 -- every message and every device, every place of the order, every number, every line, every way to cut
 pub every-device : ReaderTakes → (order l : List ℕ) → message order l .number ≡ 0 → (o : Output) → GivenBack order l (fed o (message order l .bytes))

@@ -27,9 +27,10 @@ use Rattle.events.specs.declared.Event.{Event}
 use Rattle.events.specs.declared.Event.the-variants.{Byte, Report}
 use Rattle.events.specs.Events.{reportTaken, taken}
 use Rattle.reports.specs.Reports.{reported}
-use Rattle.log.specs.Log.{decimal, lineOf, loggable, eventOf, linesFrom}
-use Rattle.order.specs.Order.{each, isOrder}
-use Rattle.joint.specs.Joint.{busyOn}
+use Rattle.log.specs.Log.{blank, put, decimal, lineOf, loggable, eventOf, linesFrom}
+use Rattle.order.specs.Order.{each, isOrder, orderOf}
+use Rattle.joint.specs.Joint.{busyOn, raised}
+use Rattle.arranging.specs.Run.{eventPlayed, linePlayed, byteHeard, heard as part-heard, begunBy, begun as log-begun, endedBy, finished}
 use Rattle.arranging.specs.Arranging.{endsMip, losesNote, spoils, atLine, fault, behindLine, lookedAt, afterLine, records, largest, values, pairBytes, mipMessage, whole, refused, message}
 
 -- the channels as they are numbered
@@ -46,6 +47,12 @@ pub in-turn : message one-to-sixteen (log (Byte 0x90 ∷ Byte 60 ∷ Byte 64 ∷
 unfolding upTo total filterBy firstOf count padded begun stored oneDataByte completed dataByte opened ended statusByte split decode tableOf startTable listed sharesFrom lookup shareOf isMip isSystemOn kindOf pairs faulty judged groupOf excludes agesOf newest assigned silent changes stateAfter changed isAmong leaves silenced lowestIdle wanted oldest busyCount overShare stealFrom cleared step5 choice noteOn fresh isRhythm masked playNoteOn played started newTable mipTaken exclusive heard byteTaken taken reportTaken reported decimal lineOf loggable eventOf linesFrom each isOrder busyOn endsMip losesNote spoils atLine fault behindLine lookedAt afterLine records largest values pairBytes mipMessage message
 in-turn = refl
 
+-- a note, and a System On: the device is fresh again, and the values stay. By bytes, as the code has it
+pub stays-at-system-on : finished (part-heard (log-begun one-to-sixteen) (log (Byte 0x90 ∷ Byte 60 ∷ Byte 64 ∷ Byte 0xF0 ∷ Byte 0x7E ∷ Byte 0x7F ∷ Byte 0x09 ∷ Byte 0x01 ∷ Byte 0xF7 ∷ [])))
+    ≡ whole one-to-sixteen (replicate 16 1) 9
+unfolding upTo total filterBy firstOf count padded begun stored oneDataByte completed dataByte opened ended statusByte split decode tableOf startTable listed sharesFrom lookup shareOf isMip isSystemOn kindOf pairs faulty judged groupOf excludes agesOf newest assigned silent changes stateAfter changed isAmong leaves silenced lowestIdle wanted oldest busyCount overShare stealFrom cleared step5 choice noteOn fresh isRhythm masked playNoteOn played started newTable mipTaken exclusive heard byteTaken taken reportTaken reported decimal lineOf loggable eventOf linesFrom each isOrder busyOn endsMip losesNote spoils atLine fault behindLine lookedAt afterLine records largest values pairBytes mipMessage message orderOf raised blank put finished endedBy part-heard byteHeard linePlayed eventPlayed begunBy
+stays-at-system-on = refl
+
 -- a MIP message for ID 0, without pairs, up to its last byte
 abbrev mip : Event → List ℕ
 mip e = log (Byte 0xF0 ∷ Byte 0x7F ∷ Byte 0x00 ∷ Byte 0x0B ∷ Byte 0x01 ∷ e ∷ [])
@@ -58,6 +65,10 @@ cut = refl
 pub ended-17 : message one-to-sixteen (mip (Byte 0xF7)) ≡ refused 17 6
 unfolding upTo firstOf count begun stored oneDataByte dataByte opened ended statusByte split isMip isSystemOn kindOf silent started fresh heard byteTaken taken decimal lineOf loggable eventOf linesFrom each isOrder total busyOn endsMip losesNote spoils atLine fault behindLine lookedAt afterLine records largest values message
 ended-17 = refl
+
+pub later-15 : message one-to-sixteen (mip (Byte 0xF7) ++ (0x0A ∷ [])) ≡ refused 17 6
+unfolding upTo firstOf count begun stored oneDataByte dataByte opened ended statusByte split isMip isSystemOn kindOf silent started fresh heard byteTaken taken decimal lineOf loggable eventOf linesFrom each isOrder total busyOn endsMip losesNote spoils atLine fault behindLine lookedAt afterLine records largest values message
+later-15 = refl
 
 pub earlier-15 : message one-to-sixteen (0x0A ∷ mip (Byte 0xF7)) ≡ refused 15 1
 unfolding upTo firstOf count begun stored oneDataByte dataByte opened ended statusByte split isMip isSystemOn kindOf silent started fresh heard byteTaken taken decimal lineOf loggable eventOf linesFrom each isOrder total busyOn endsMip losesNote spoils atLine fault behindLine lookedAt afterLine records largest values message

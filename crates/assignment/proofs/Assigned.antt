@@ -2,7 +2,7 @@
 -- there is always room for one more; and the order is that of the last assignments.
 -- Assumes nothing.
 use mathlib.Core.Path.{_≡_, refl, sym, ap, _∙_}
-use mathlib.Core.Bool.{Bool, true, false, not, _&&_, _||_}
+use mathlib.Core.Bool.{Bool, true, false, not, _||_}
 use mathlib.Core.List.{List, [], _∷_, _++_}
 use Prim.Native.Nat.{ℕ, _+_, _≤_, _<_}
 use native.Mathlib.Omega.{arith}
@@ -147,20 +147,20 @@ unidle x true t e =
     absurd (let y : _≡_ {A = ℕ} 0 1 = cc in omega arith)
 unidle x false t e = refl
 
-or-left : (a b : Bool) → a ≡ true → (a || b) ≡ true
-or-left a b e = rw e
+left-holds : (a b : Bool) → a ≡ true → (a || b) ≡ true
+left-holds a b e = rw e
 
-or-right : (a b : Bool) → b ≡ true → (a || b) ≡ true
-or-right true b e = refl
-or-right false b e = e
+right-holds : (a b : Bool) → b ≡ true → (a || b) ≡ true
+right-holds true b e = refl
+right-holds false b e = e
 
 pub change-busy : (h : Change) (x : Generator) → changes h x ≡ true → (isHeld x || isSustained x) ≡ true
 unfolding changes
 change-busy (ReleaseNote c k) x e = and-left _ (isOn c x) (and-left _ (eqb (x .key) k) e)
 change-busy (ReleaseChannel c) x e = and-left _ (isOn c x) e
-change-busy (NoteOff pedal c k) x e = or-left (isHeld x) _ (and-left _ (isOn c x) (and-left _ (eqb (x .key) k) e))
-change-busy (AllNotesOff pedal c) x e = or-left (isHeld x) _ (and-left _ (isOn c x) e)
-change-busy (PedalUp c) x e = or-right (isHeld x) (isSustained x) (and-left _ (isOn c x) e)
+change-busy (NoteOff pedal c k) x e = left-holds (isHeld x) _ (and-left _ (isOn c x) (and-left _ (eqb (x .key) k) e))
+change-busy (AllNotesOff pedal c) x e = left-holds (isHeld x) _ (and-left _ (isOn c x) e)
+change-busy (PedalUp c) x e = right-holds (isHeld x) (isSustained x) (and-left _ (isOn c x) e)
 
 -- the state that a change leads to is not idle
 up-sounds : (pedal : Bool) → eqb (keyUp pedal) 0 ≡ false

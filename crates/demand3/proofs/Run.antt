@@ -10,7 +10,7 @@ use borrow.Author.Tests.{eqb-true, eq-eqb, ne-eqb}
 use lib.Dec.{eqb}
 use Rattle.loops.specs.Cases.{if_then_else_, bit}
 use Rattle.loops.specs.Passes.{total}
-use Rattle.loops.proofs.Totals.{total-same}
+use Rattle.loops.proofs.Totals.{total-same, total-le}
 use Rattle.splitter.specs.declared.Parser.{Parser}
 use Rattle.message.specs.declared.Message.{Message}
 use Rattle.message.specs.declared.Message.the-variants.{NoteOn, NoteOff, Control, Program, Bend, Other}
@@ -59,11 +59,6 @@ step i j b h a right-reset m = step-reset i b m
 step i j b h a (right-report g) m = step-report i b m g
 
 -- ---- a channel's notes
-
-total-le : (f g : ℕ → ℕ) (n : ℕ) → ((i : ℕ) → f i ≤ g i) → total f n ≤ total g n
-unfolding total
-total-le f g zero h = omega arith
-total-le f g (suc n) h = let k = total-le f g n h in let j = h n in omega arith
 
 freed-le : (x : ℕ) (f : Slot → Bool) (p : Bool) (s : Slot) → bit (isOf x (freed f p s)) ≤ bit (isOf x s)
 freed-le x f p empty = omega arith

@@ -8,14 +8,14 @@ use native.Mathlib.Omega.{arith}
 use lib.Dec.{T, leb, ltb}
 use borrow.Author.Tests.{lt-ltb, le-ltb, ltb-false, leb-true, ne-eqb}
 use Rattle.loops.specs.Cases.{if_then_else_}
+use Rattle.loops.proofs.Tests.{and-left, and-right}
 use Rattle.fields.specs.declared.Line.{Line}
 use Rattle.fields.specs.Line.{kept, isDigit, withDigit, afterDigit, afterComma, read}
 use Rattle.fields.specs.Fields.{numberFrom, spelled}
 use Rattle.fields.proofs.Parts.{from, from-byte}
 
 pub both : (x y : Bool) → (x && y) ≡ true → (x ≡ true) × (y ≡ true)
-both true y e = (refl, e)
-both false y e = absurd (subst T (sym e) tt)
+both x y e = (and-left x y e, and-right x y e)
 
 -- a line within a number
 unfoldable pub at : ℕ → Bool → ℕ → ℕ → ℕ → Line

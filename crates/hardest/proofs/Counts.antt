@@ -9,7 +9,7 @@ use borrow.Author.Tests.{eqb-true, ne-eqb, lt-leb}
 use lib.Dec.{eqb, leb, ltb}
 use Rattle.loops.specs.Cases.{if_then_else_, bit}
 use Rattle.loops.specs.Passes.{total}
-use Rattle.loops.proofs.Totals.{bit-le, total-same}
+use Rattle.loops.proofs.Totals.{bit-le, total-same, total-le}
 use Rattle.splitter.specs.declared.Parser.{Parser}
 use Rattle.splitter.specs.declared.Completed.{Completed}
 use Rattle.splitter.specs.declared.Completed.the-variants as completed
@@ -185,11 +185,6 @@ on-heard id p completed.SysEx a = let e = on-exclusive (body p) (kindOf id (body
 
 abbrev pub notesIn : ℕ → (ℕ → Slot) → ℕ
 notesIn p n = total (λ g. bit (isNote (n g))) p
-
-total-le : (f g : ℕ → ℕ) (n : ℕ) → ((i : ℕ) → f i ≤ g i) → total f n ≤ total g n
-unfolding total
-total-le f g zero h = omega arith
-total-le f g (suc n) h = let k = total-le f g n h in let j = h n in omega arith
 
 freed-le : (f : Slot → Bool) (p : Bool) (s : Slot) → bit (isNote (freed f p s)) ≤ bit (isNote s)
 freed-le f p empty = omega arith

@@ -1,6 +1,5 @@
 // A line of a song's log (document 02, ticket 1): which event it says, for every text. Assumes nothing.
 ghost use mathlib.Core.Path.{_≡_};
-ghost use Prim.Native.Nat.{_+_, _-_, _*_};
 ghost use mathlib.Core.List.{[], _∷_};
 ghost use Rattle.log.specs.Log.{blank, put, textOf, eventOf, meaningOf};
 ghost use Rattle.log.specs.Parse.{isDigit, right, eventBy, parse};

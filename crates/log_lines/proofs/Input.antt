@@ -18,7 +18,7 @@ use Rattle.arranging.specs.Run.{joined, begun, byteHeard, heard}
 use Rattle.arranging.proofs.Parts.{stays, parts}
 use Rattle.log_lines.specs.declared.OrderLine.{OrderLine}
 use Rattle.log_lines.specs.declared.Reading.{Reading}
-use Rattle.log_lines.specs.LogLines.{newOrder, orderByte, orderBytes, orderIn, reading, newReading, byteRead, bytesRead, isKnown, ended, messageOf, writtenLine, firstLine, behindFirst, arranged, outputOf, errorOf}
+use Rattle.log_lines.specs.LogLines.{newOrder, orderByte, orderBytes, orderIn, reading, newReading, byteRead, bytesRead, partsRead, isKnown, ended, messageOf, writtenLine, firstLine, behindFirst, arranged, standardOutput, standardError}
 
 -- ---- the bytes of a read
 
@@ -74,10 +74,6 @@ unfolding arranged
 input-read input = from-order newOrder _ input
 
 -- in parts
-abbrev pub partsRead : Reading → List (List ℕ) → Reading
-partsRead c [] = c
-partsRead c (p ∷ ps) = partsRead (bytesRead c p) ps
-
 read-append : (c : Reading) (a b : List ℕ) → bytesRead c (a ++ b) ≡ bytesRead (bytesRead c a) b
 unfolding bytesRead
 read-append c [] b = refl
@@ -111,8 +107,8 @@ at-once ps rest e =
 -- ---- what is written of it
 
 -- a page that has room for what is put at its start has it whole before the place that is answered
-pub output-written : (ps : List (List ℕ)) (page : List ℕ) (used : ℕ) → take used page ≡ messageOf (ended (partsRead newReading ps)) → take used page ≡ outputOf (joined ps)
+pub output-written : (ps : List (List ℕ)) (page : List ℕ) (used : ℕ) → take used page ≡ messageOf (ended (partsRead newReading ps)) → take used page ≡ standardOutput (joined ps)
 output-written ps page used e = e ∙ ap messageOf (any-parts ps)
 
-pub error-written : (ps : List (List ℕ)) (page : List ℕ) (used : ℕ) → take used page ≡ writtenLine (ended (partsRead newReading ps)) → take used page ≡ errorOf (joined ps)
+pub error-written : (ps : List (List ℕ)) (page : List ℕ) (used : ℕ) → take used page ≡ writtenLine (ended (partsRead newReading ps)) → take used page ≡ standardError (joined ps)
 error-written ps page used e = e ∙ ap writtenLine (any-parts ps)

@@ -2,13 +2,15 @@
 -- Assumes nothing.
 use mathlib.Core.Path.{_≡_, refl}
 use mathlib.Core.Bool.{true, false}
-use mathlib.Core.List.{[], _∷_}
+use mathlib.Core.List.{List, [], _∷_}
+use Prim.Native.Nat.{ℕ}
 use lib.Dec.{eqb}
 use lib.ListN.{take}
 use Rattle.text.specs.Text.{decimalWithin, hexDigit, hexadecimals}
 use Rattle.arranging.specs.declared.Written.{Written}
 use Rattle.arranging.specs.Arranging.{refused}
-use Rattle.log_lines.specs.LogLines.{messageOf, writtenLine}
+use Rattle.log_lines.specs.declared.Reading.{Reading}
+use Rattle.log_lines.specs.LogLines.{bytesRead, partsRead, messageOf, writtenLine}
 
 pub nothing-beside-a-number : (w : Written) → eqb (w .number) 0 ≡ false → messageOf w ≡ []
 unfolding messageOf
@@ -22,3 +24,7 @@ message-given w e = rw e
 pub line-of-17 : take 11 (writtenLine (refused 17 512)) ≡ 49 ∷ 55 ∷ 44 ∷ 53 ∷ 49 ∷ 50 ∷ 44 ∷ 48 ∷ 48 ∷ 32 ∷ 48 ∷ []
 unfolding writtenLine decimalWithin hexDigit hexadecimals
 line-of-17 = refl
+
+-- reads come one behind the other
+pub read-by-read : (c : Reading) (p q : List ℕ) → partsRead c (p ∷ q ∷ []) ≡ bytesRead (bytesRead c p) q
+read-by-read c p q = refl

@@ -46,11 +46,11 @@ orderBytes c [] = c
 orderBytes c (b ∷ bs) = orderBytes (orderByte c b) bs
 
 -- the channels of a line that has ended: none of one that is lost, which is refused with 16 as every list of too few is
-abbrev pub lookedAt : ℕ → ℕ
-lookedAt count = if leb count 16 then count else 0
+abbrev pub usable : ℕ → ℕ
+usable count = if leb count 16 then count else 0
 
 unfoldable pub orderIn : OrderLine → List ℕ
-orderIn c = take (lookedAt (putAway c .count)) (putAway c .channels)
+orderIn c = take (usable (putAway c .count)) (putAway c .channels)
 
 -- ---- the input, byte by byte
 
@@ -70,6 +70,11 @@ byteRead c b =
 unfoldable pub bytesRead : Reading → List ℕ → Reading
 bytesRead c [] = c
 bytesRead c (b ∷ bs) = bytesRead (byteRead c b) bs
+
+-- several reads, one behind the other
+abbrev pub partsRead : Reading → List (List ℕ) → Reading
+partsRead c [] = c
+partsRead c (p ∷ ps) = partsRead (bytesRead c p) ps
 
 -- a number has fallen; nothing behind it changes the answer (proofs/Input.antt)
 unfoldable pub isKnown : Reading → Bool
@@ -105,11 +110,11 @@ unfoldable pub arranged : List ℕ → Written
 arranged input = message (orderIn (orderBytes newOrder (firstLine input))) (behindFirst input)
 
 -- and what standard output and standard error get for it
-abbrev pub outputOf : List ℕ → List ℕ
-outputOf input = messageOf (arranged input)
+abbrev pub standardOutput : List ℕ → List ℕ
+standardOutput input = messageOf (arranged input)
 
-abbrev pub errorOf : List ℕ → List ℕ
-errorOf input = writtenLine (arranged input)
+abbrev pub standardError : List ℕ → List ℕ
+standardError input = writtenLine (arranged input)
 
 -- ---- the order's line by its fields, cut at its commas (crate `fields`, specs/Fields); that it is read so is in proofs/Sentences.antt
 

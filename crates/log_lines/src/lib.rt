@@ -7,7 +7,7 @@ ghost use mathlib.Core.List.{_++_};
 ghost use lib.ListN.{length, take};
 ghost use Rattle.text.specs.Text.{Put};
 ghost use Rattle.arranging.specs.Run.{begun};
-ghost use Rattle.log_lines.specs.LogLines.{lost, putAway, orderByte, lookedAt, orderIn, reading, newReading, bytesRead, ended, isKnown, messageOf, writtenLine};
+ghost use Rattle.log_lines.specs.LogLines.{lost, putAway, orderByte, usable, orderIn, reading, newReading, bytesRead, ended, isKnown, messageOf, writtenLine};
 use arranging::Run;
 use arranging::Written;
 use fields::Line;
@@ -82,8 +82,8 @@ fn next(c: OrderLine, b: u8) -> OrderLine
 }
 
 // How many channels of a line that has ended are looked at: of one that is lost none.
-fn looked_at(count: u8) -> usize
-    ensures { λ r. ⌜ (r ≡ lookedAt count) × (r ≤ 16) ⌝ }
+fn usable(count: u8) -> usize
+    ensures { λ r. ⌜ (r ≡ usable count) × (r ≤ 16) ⌝ }
 {
     if count <= 16 {
         return count as usize;
@@ -97,7 +97,7 @@ fn begin_log(c: OrderLine) -> Run
 {
     let o = put_away(c);
     let channels = o.channels;
-    let n = looked_at(o.count);
+    let n = usable(o.count);
     arranging::begin(&channels[..n])
 }
 

@@ -23,6 +23,12 @@ unfolding total
 total-same f g zero h = refl
 total-same f g (suc n) h = rw (total-same f g n (λ i k. h i (omega arith)), h n (omega arith))
 
+-- smaller terms give a smaller sum
+pub total-le : (f g : ℕ → ℕ) (n : ℕ) → ((i : ℕ) → f i ≤ g i) → total f n ≤ total g n
+unfolding total
+total-le f g zero h = omega arith
+total-le f g (suc n) h = let k = total-le f g n h in let j = h n in omega arith
+
 -- nothing adds up to nothing
 pub total-zero : (n : ℕ) → total (λ i. 0) n ≡ 0
 unfolding total

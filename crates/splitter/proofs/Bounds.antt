@@ -13,6 +13,7 @@ use lib.ListN.{length, take, set, length-append, length-set}
 use lib.Seq.{take-all, take-suc-set, take-append-le, length-take-le}
 use Rattle.loops.specs.Cases.{if_then_else_}
 use Rattle.splitter.specs.Split.{begun, stored, inSysEx, body, atLast, completed, dataByte, opened, statusByte, split}
+use Rattle.splitter.specs.declared.Completed.the-variants.{Nothing}
 use Rattle.splitter.specs.declared.Parser.{Parser}
 use Rattle.splitter.specs.declared.Split.{Split}
 
@@ -71,16 +72,16 @@ body-stored p b h =
     (λ k. sym (take-append-le 37 (body p) (b ∷ []) (omega arith) ∙ take-all 37 (body p) (omega arith)))
 
 -- a data byte in an open SysEx is stored, and the SysEx stays open
-split-open : (p : Parser) (b : ℕ) → inSysEx p ≡ true → ltb b 0x80 ≡ true → split p b .parser ≡ stored p b
+pub split-open : (p : Parser) (b : ℕ) → inSysEx p ≡ true → ltb b 0x80 ≡ true → split p b ≡ record { parser = stored p b; completed = Nothing }
 unfolding split dataByte
 split-open p b o d =
     let s : p .status ≡ 0xF0 = eqb-true (p .status) 0xF0 o in
     rw (d, le-ltb (p .status) 0x80 (omega arith), o)
 
 pub body-split : (p : Parser) (b : ℕ) → Bounded p → inSysEx p ≡ true → ltb b 0x80 ≡ true → body (split p b .parser) ≡ take 37 (body p ++ (b ∷ []))
-body-split p b h o d = ap body (split-open p b o d) ∙ body-stored p b h
+body-split p b h o d = ap (λ (s : Split). body (s .parser)) (split-open p b o d) ∙ body-stored p b h
 
-stays-open : (p : Parser) (b : ℕ) → inSysEx p ≡ true → inSysEx (stored p b) ≡ true
+pub stays-open : (p : Parser) (b : ℕ) → inSysEx p ≡ true → inSysEx (stored p b) ≡ true
 stays-open p b o = by-room (λ q. inSysEx q ≡ true) p b (λ k. o) (λ k. o)
 
 -- the parser after a list of bytes
@@ -102,7 +103,7 @@ pub body-after : (p : Parser) (l : List ℕ) → Bounded p → inSysEx p ≡ tru
 unfolding after
 body-after p [] h o none = rw (append-nil (body p)) (sym (take-all 37 (body p) (omega (arith, body-length p h, h .counted))))
 body-after p (b ∷ l) h o (more d ds) =
-    ap (λ (q : Parser). body (after q l)) (split-open p b o d)
+    ap (λ (s : Split). body (after (s .parser) l)) (split-open p b o d)
     ∙ body-after (stored p b) l (bounded-stored p b h) (stays-open p b o) ds
     ∙ ap (λ (m : List ℕ). take 37 (m ++ l)) (body-stored p b h)
     ∙ take-front 37 (body p ++ (b ∷ [])) l
