@@ -10,8 +10,8 @@
  * pitch, gains by their numbers, a song and the message of a whole log need no record; the gains of a channel mean what they say for any eleven bytes.) One record is used by one thread
  * at a time; two records never touch each other.
  *
- * A NULL or misaligned pointer, or one to less memory than the struct or the length that is lent, is the caller's error and is not tested for, and so are bytes that are lent to be read
- * out of the record or the buffer that the same call writes; with length 0 the pointer to bytes is not looked at. (The record of a device is made of bytes alone, so its alignment is 1 and
+ * A NULL or misaligned pointer, or one to less memory than the struct or the length that is lent, is the caller's error and is not tested for, and so are bytes or a record that are lent to be
+ * read out of the record or the buffer that the same call writes; with length 0 the pointer to bytes is not looked at. (The record of a device is made of bytes alone, so its alignment is 1 and
  * every address is aligned for it. That of a log holds a uint64_t and has its alignment: 8 on x86-64.)
  *
  * Channels are 1 to 16, as musicians count them; the wire carries channel minus 1. "Document 01" is the specification, "The note allocator of a scalable
@@ -59,6 +59,7 @@ extern "C" {
 #define MUNTINORRIS_LOG_OTHER_FORM 15    /* log: a line is of another form. The record of the log is as it was before that line, which is counted; 38 zeros for the message, as with 16 and 17 */
 #define MUNTINORRIS_BAD_ORDER 16         /* log: the order is not all sixteen channels once; the log is not looked at. A fresh device of polyphony 64 and own ID 0, and zeros */
 #define MUNTINORRIS_LOG_SPOILT 17        /* log: at a line a MIP message for device 7F or 0 ends, accepted or not, a note is stolen or number 11 falls. As 15: the device has not played the line */
+#define MUNTINORRIS_PAGE_TOO_SHORT 18    /* page: the buffer has fewer than 323 bytes. It is untouched */
 #define MUNTINORRIS_BAD_PITCH 21         /* pitch: key above 127, sensitivity above 24 or bend above 16383. Entry 65536 and octave 0 */
 #define MUNTINORRIS_BAD_LEVEL 24         /* gains: expression, volume or pan above 127. Both gains 0 */
 #define MUNTINORRIS_SONG_TOO_LONG 25     /* song: above 65,536 bytes or longer than the buffer, and the polyphony is 1 to 64. The buffer is untouched */
@@ -248,6 +249,21 @@ struct muntinorris_generator_answer muntinorris_generator(const struct muntinorr
 /* Number 14 where the channel is not 1 to 16. */
 struct muntinorris_mask_answer muntinorris_mask(const struct muntinorris_device *d, uint8_t channel);
 struct muntinorris_share_answer muntinorris_share(const struct muntinorris_device *d, uint8_t channel);
+
+/*
+ * The service page: the state of the device as text, in the first 323 bytes of the buffer; its other bytes stay, and no 0 byte is put behind the text. 17 lines of 18 characters, ASCII, each
+ * ended by byte 0AH. Under the head
+ *
+ *     CH PR VAL SHR M NT
+ *
+ * stand channels 1 to 16, a line each: the channel, its place in the order of the MIP table (from 1), its value there, its share, `M` if it is masked and `-` if not, and how many generators
+ * are busy with it, held or sustained. Numbers are right-aligned with blanks. Place and value of a channel that the table doesn't list, and the share of a masked one, are filled with `-`; a
+ * channel that is listed and masked has its place and its value.
+ *
+ * The caller owns record and buffer and lends them for the call: the record is read and not changed, and the two must not overlap. length is all that the buffer has. 0, or number 18.
+ */
+#define MUNTINORRIS_PAGE_BYTES 323
+uint8_t muntinorris_page(const struct muntinorris_device *d, uint8_t *page, size_t length);
 
 /*
  * The pitch of a key, 0 to 127, with the sensitivity of its channel in semitones, 0 to 24, and the bend, 0 to 16383 with centre 8192, which is 128 * bend_msb + bend_lsb of
