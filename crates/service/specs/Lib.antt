@@ -1,0 +1,3 @@
+-- The service page.
+-- Assumes nothing.
+pub mod Page
