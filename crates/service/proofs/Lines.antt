@@ -96,7 +96,7 @@ one-more n h = omega arith
 
 -- ---- the whole buffer
 
-rows-same : (t : List Entry) (p : ℕ) (f g : ℕ → ℕ) (n : ℕ) → ((c : ℕ) → c ≤ n → f c ≡ g c) → rowsTo t p f n ≡ rowsTo t p g n
+pub rows-same : (t : List Entry) (p : ℕ) (f g : ℕ → ℕ) (n : ℕ) → ((c : ℕ) → c ≤ n → f c ≡ g c) → rowsTo t p f n ≡ rowsTo t p g n
 unfolding rowsTo row
 rows-same t p f g zero h = refl
 rows-same t p f g (suc n) h = rw (rows-same t p f g n (λ c k. h c (omega arith)), h (suc n) (omega arith)) refl
