@@ -97,6 +97,6 @@ notes-add-up p id l =
     total-same (λ (i : ℕ). busyTold d (i + 1)) (λ (i : ℕ). busyCount s (i + 1)) 16 (λ i h. told-count d above few (i + 1))
     ∙ swapped (λ (i g : ℕ). bit (isBusyOn (i + 1) (at s g))) 16 64
     ∙ total-same (λ (g : ℕ). total (λ i. bit (isBusyOn (i + 1) (at s g))) 16) (λ (g : ℕ). bit (isBusy (at s g))) 64
-        (λ g h. once (at s g) (λ e. in-range (at s g .channel) (quota b) (shares-channels (b .polyphony) 0 (b .table) (m .well-formed .channels)) (busy-listed (quota b) (at s g) (rw (m .notes g) at (m .unmasked g)) e)))
+    (λ g h. once (at s g) (λ e. in-range (at s g .channel) (quota b) (shares-channels (b .polyphony) 0 (b .table) (m .well-formed .channels)) (busy-listed (quota b) (at s g) (rw (m .notes g) at (m .unmasked g)) e)))
     ∙ sym (total-cut (λ (g : ℕ). bit (isBusy (at s g))) 64 256 (omega arith) (λ g h. none-busy d above g (omega arith)))
     ∙ sym (total-same (λ (g : ℕ). bit (isBusyTold (generatorQuery d g))) (λ (g : ℕ). bit (isBusy (at s g))) 256 (λ g h. ap bit (told-busy d above g)))

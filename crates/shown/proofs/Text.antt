@@ -27,7 +27,7 @@ use Rattle.log.specs.Log.{decimal}
 use Rattle.service.specs.declared.Standing.{Standing}
 use Rattle.service.specs.declared.Standing.the-variants.{Listed, Unlisted}
 use Rattle.service.specs.Page.{inTwo, inThree, standingFrom, placeField, valueField, shareField, mark, head, line, row, rowsTo, pageOf, pageText}
-use Rattle.service.proofs.Lines.{rows-length}
+use Rattle.service.proofs.Lines.{page-length}
 use Rattle.shown.specs.Shown.{lineAt, Characters, IsLine, Bytes, OfBytes, SeventeenLines, right, RightAligned}
 use Rattle.shown.proofs.Fields.{head-at, line-at}
 
@@ -190,10 +190,6 @@ module _ (d : Device) (o : OfBytes (d .instrument .table)) where
   abbrev busy : ℕ → ℕ
   busy = busyCount (d .instrument .generators)
 
-  page-length : length (pageText d) ≡ 323
-  unfolding pageText pageOf head
-  page-length = length-append head (rowsTo t p busy 16) ∙ rw (rows-length t p busy 16) refl
-
   short : length t ≤ 16
   short = rw (length-at-most 16 (d .instrument .table .count) (d .instrument .table .entries) (o .sixteen)) (at-most-le 16 (d .instrument .table .count))
 
@@ -211,4 +207,4 @@ module _ (d : Device) (o : OfBytes (d .instrument .table)) where
   line-of-text (suc n) h = rw (line-at t p busy (suc n) (omega arith) (omega arith)) (row-is (suc n) (omega arith))
 
 pub seventeen-lines : SeventeenLines
-seventeen-lines d o = (page-length d o, line-of-text d o)
+seventeen-lines d o = (page-length d, line-of-text d o)
