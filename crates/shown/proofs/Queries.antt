@@ -1,35 +1,27 @@
 -- The page agrees with the queries. A generator from P on is idle, so that asking for all 256 numbers counts what the record's pass over 64 counts; and a busy generator is on one
 -- of the sixteen channels, since its note stands on a channel that the table lists.
 -- Assumes nothing.
-use Prim.Native.Nat.{ℕ, zero, suc, _+_, _≤_, _<_}
+use Prim.Native.Nat.{ℕ, _≤_}
 use mathlib.Core.Path.{_≡_, refl, sym, ap, _∙_}
-use mathlib.Core.Bool.{Bool, true, false, _&&_, _||_}
-use mathlib.Core.List.{List, [], _∷_}
+use mathlib.Core.Bool.{Bool, true, false, _&&_}
+use mathlib.Core.List.{[], _∷_}
 use native.Mathlib.Omega.{arith}
-use borrow.Author.Tests.{leb-true, leb-false, eqb-true, le-leb, eq-eqb, ne-eqb}
-use lib.Dec.{eqb, leb}
-use Rattle.loops.specs.Cases.{if_then_else_, bit}
-use Rattle.loops.specs.Passes.{total}
-use Rattle.loops.proofs.Totals.{total-same, total-add, total-zero}
-use Rattle.table.specs.declared.Entry.{Entry}
-use Rattle.table.specs.Laws.{Channels}
-use Rattle.table.specs.Table.{entriesOf, listed}
+use borrow.Author.Tests.{leb-true, eqb-true, le-leb}
+use lib.Dec.{leb}
+use Rattle.loops.specs.Cases.{bit}
+use Rattle.loops.proofs.Totals.{total-same}
+use Rattle.table.specs.Table.{entriesOf}
 use Rattle.shares.specs.declared.Share.{Share}
 use Rattle.shares.specs.declared.Share.the-variants.{Masked, Units}
 use Rattle.shares.specs.Shares.{isChannel, maskAnswer, shareAnswer, maskQuery, shareQuery, shareOf}
-use Rattle.shares.proofs.Shares.{shares-channels}
-use Rattle.generators.specs.declared.Generators.{Generators}
-use Rattle.generators.specs.Generators.{Generator, at, isIdle, isBusy, isOn, isBusyOn}
+use Rattle.generators.specs.Generators.{Generator, at, isIdle, isBusy, isBusyOn}
 use Rattle.choice.specs.Choice.{busyCount}
 use Rattle.device.specs.declared.Device.{Device}
-use Rattle.events.specs.declared.Event.{Event}
-use Rattle.queries.specs.Queries.{generatorQuery, deviceMask, deviceShare}
+use Rattle.queries.specs.Queries.{generatorQuery}
 use Rattle.service.specs.Page.{shareField, mark, row, pageText}
-use Rattle.demand3.specs.Demand3.{Slot, Book, slotOf, after, Live, begin}
-use Rattle.demand3.proofs.Pigeons.{IsListed}
+use Rattle.demand3.specs.Demand3.{after, Live, begin}
 use Rattle.demand3.proofs.Choose.{total-cut}
-use Rattle.demand3.proofs.Matches.{Matches, quota}
-use Rattle.shown.specs.Shown.{shareTold, markTold, isBusyTold, isOnTold, busyTold, allBusyTold, Agrees, AgreesWithQueries, NotesAddUp}
+use Rattle.shown.specs.Shown.{shareTold, markTold, isBusyTold, isOnTold, busyTold, Agrees, AgreesWithQueries}
 use Rattle.shown.proofs.Book.{matched}
 use Rattle.shown.proofs.Fields.{line-at, cut-channel, cut-place, cut-value, cut-share, cut-mark, cut-notes}
 

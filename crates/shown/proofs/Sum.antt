@@ -8,7 +8,7 @@ use mathlib.Core.List.{List, [], _∷_}
 use native.Mathlib.Omega.{arith}
 use borrow.Author.Tests.{leb-true, leb-false, eqb-true, eq-eqb, ne-eqb}
 use lib.Dec.{eqb, leb}
-use Rattle.loops.specs.Cases.{if_then_else_, bit}
+use Rattle.loops.specs.Cases.{bit}
 use Rattle.loops.specs.Passes.{total}
 use Rattle.loops.proofs.Totals.{total-same, total-add, total-zero}
 use Rattle.table.specs.declared.Entry.{Entry}
@@ -17,13 +17,12 @@ use Rattle.table.specs.Table.{listed}
 use Rattle.shares.proofs.Shares.{shares-channels}
 use Rattle.generators.specs.Generators.{Generator, at, isIdle, isHeld, isSustained, isBusy, isBusyOn}
 use Rattle.choice.specs.Choice.{busyCount}
-use Rattle.device.specs.declared.Device.{Device}
 use Rattle.queries.specs.Queries.{generatorQuery}
-use Rattle.demand3.specs.Demand3.{Slot, note, slotOf, after, Live, begin}
+use Rattle.demand3.specs.Demand3.{slotOf, after, Live, begin}
 use Rattle.demand3.proofs.Pigeons.{IsListed}
 use Rattle.demand3.proofs.Choose.{total-cut}
 use Rattle.demand3.proofs.Matches.{quota}
-use Rattle.shown.specs.Shown.{isBusyTold, busyTold, allBusyTold, NotesAddUp}
+use Rattle.shown.specs.Shown.{isBusyTold, busyTold, NotesAddUp}
 use Rattle.shown.proofs.Book.{matched}
 use Rattle.shown.proofs.Queries.{told-busy, told-count, none-busy}
 

@@ -1,20 +1,19 @@
 -- The page's bytes are 17 lines of text, for every record of bytes: each field has characters, since a place is at most 16, a count at most 64, and values and shares fit a byte. And
 -- numbers are right-aligned.
 -- Assumes nothing.
-use Prim.Native.Nat.{ℕ, zero, suc, _+_, _-_, _*_, _/_, _%_, _≤_, _<_}
-use mathlib.Core.Path.{_≡_, refl, _∙_}
+use Prim.Native.Nat.{ℕ, zero, suc, _+_, _-_, _/_, _%_, _≤_, _<_}
+use mathlib.Core.Path.{_≡_, refl}
 use mathlib.Core.Bool.{Bool, true, false, _&&_}
 use mathlib.Core.List.{List, [], _∷_, _++_}
 use native.Mathlib.Omega.{arith}
-use borrow.Author.Tests.{leb-true, ltb-true, ltb-false, lt-ltb, le-ltb}
+use borrow.Author.Tests.{leb-true, ltb-true, lt-ltb}
 use lib.Dec.{eqb, ltb, leb}
-use lib.ListN.{length, take, length-append}
-use Rattle.loops.specs.Cases.{if_then_else_, atMost, bit}
+use lib.ListN.{length, take}
+use Rattle.loops.specs.Cases.{if_then_else_}
 use Rattle.loops.proofs.Padded.{at-most-le, length-at-most}
 use Rattle.loops.proofs.Tests.{and-left, and-right}
 use Rattle.loops.proofs.Totals.{total-bits}
 use Rattle.table.specs.declared.Entry.{Entry}
-use Rattle.table.specs.declared.Table.{Table}
 use Rattle.table.specs.Table.{entry, entriesOf}
 use Rattle.shares.specs.declared.Share.{Share}
 use Rattle.shares.specs.declared.Share.the-variants.{Masked, Units}
@@ -26,7 +25,7 @@ use Rattle.device.specs.declared.Device.{Device}
 use Rattle.log.specs.Log.{decimal}
 use Rattle.service.specs.declared.Standing.{Standing}
 use Rattle.service.specs.declared.Standing.the-variants.{Listed, Unlisted}
-use Rattle.service.specs.Page.{inTwo, inThree, standingFrom, placeField, valueField, shareField, mark, head, line, row, rowsTo, pageOf, pageText}
+use Rattle.service.specs.Page.{inTwo, inThree, standingFrom, placeField, valueField, shareField, mark, head, line, row, pageText}
 use Rattle.service.proofs.Lines.{page-length}
 use Rattle.shown.specs.Shown.{lineAt, Characters, IsLine, Bytes, OfBytes, SeventeenLines, right, RightAligned}
 use Rattle.shown.proofs.Fields.{head-at, line-at}

@@ -5,7 +5,7 @@ use mathlib.Core.Path.{_≡_, refl, ap, _∙_}
 use mathlib.Core.Bool.{_&&_}
 use mathlib.Core.List.{List, [], _∷_}
 use native.Mathlib.Omega.{arith}
-use lib.ListN.{length, getD, replicate, length-append}
+use lib.ListN.{length, replicate, length-append}
 use Rattle.loops.specs.Cases.{bit}
 use Rattle.loops.specs.Passes.{upTo, total, filterBy, firstOf, padded}
 use Rattle.splitter.specs.Split.{begun, stored, oneDataByte, completed, dataByte, opened, ended, statusByte, split}
@@ -34,13 +34,13 @@ use Rattle.reports.specs.Reports.{reported}
 use Rattle.device.specs.declared.Device.{Device}
 use Rattle.device.specs.Device.{started, heard, byteTaken}
 use Rattle.events.specs.declared.Event.{Event}
-use Rattle.events.specs.declared.Event.the-variants.{Byte, Report}
+use Rattle.events.specs.declared.Event.the-variants.{Byte}
 use Rattle.events.specs.Events.{reportTaken, taken}
 use Rattle.queries.specs.Queries.{generatorQuery, deviceMask, deviceShare}
 use Rattle.log.specs.Log.{decimal}
 use Rattle.service.specs.Page.{inTwo, inThree, standingFrom, placeField, valueField, head, line, row, rowsTo, pageOf, pageText}
 use Rattle.demand3.specs.Demand3.{notesOn, after, Live, begin}
-use Rattle.shown.specs.Shown.{ShowsTheBook, isBusyTold, isOnTold, busyTold, allBusyTold, lineAt, field, Agrees, AgreesWithQueries, NotesAddUp, Characters, IsLine, Bytes, OfBytes, SeventeenLines, RightAligned}
+use Rattle.shown.specs.Shown.{ShowsTheBook, isBusyTold, isOnTold, busyTold, lineAt, field, Agrees, AgreesWithQueries, NotesAddUp, Characters, IsLine, Bytes, OfBytes, SeventeenLines, RightAligned}
 
 -- ---- the words
 
