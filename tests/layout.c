@@ -317,6 +317,16 @@ static void numbers(void)
     check(muntinorris_generator(device, 0).state == MUNTINORRIS_STATE_RELEASING, "the state releasing");
 }
 
+/* Number 18 and no number; what a page is, and that nothing else is written, is held in tests/page.c. */
+static void pages(void)
+{
+    static uint8_t page[MUNTINORRIS_PAGE_BYTES];
+
+    start(64, 5);
+    check(muntinorris_page(device, page, sizeof page - 1) == MUNTINORRIS_PAGE_TOO_SHORT && page[0] == 0, "number 18");
+    check(muntinorris_page(device, page, sizeof page) == 0 && page[sizeof page - 1] == '\n', "a page");
+}
+
 /*
  * A pitch answer's fields, each with a value of its own. Then the pitch of a note, as a driver asks for it (README.md): sensitivity 12, bent down by a third of it and half a
  * sixteenth, of which the floor makes a whole one: position 960 - 65.
@@ -618,6 +628,7 @@ int main(int argc, char **argv)
     generators();
     ages_and_id();
     numbers();
+    pages();
     pitches();
     gains();
     songs();

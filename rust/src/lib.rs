@@ -83,7 +83,8 @@ pub struct MipMessage {
     pub lines: u64,
 }
 
-/// The number of a refused query, 12 or 14, of a refused order, 16, of a log so far, 15 or 17, of a refused pitch, 21, of refused gains, 24, or of a refused song, 1 or 25.
+/// The number of a refused query, 12 or 14, of a refused order, 16, of a log so far, 15 or 17, of a page without room, 18, of a refused pitch, 21, of refused gains, 24, or of a refused
+/// song, 1 or 25.
 #[derive(Clone, Copy, Debug, PartialEq, Eq)]
 pub struct Refused(pub u8);
 
@@ -95,6 +96,9 @@ pub struct RefusedLog {
     pub line: u64,
 }
 
+/// The bytes of a service page: 17 lines of 18 characters, each ended by 0AH.
+pub const PAGE_BYTES: usize = 323;
+
 extern "C" {
     fn muntinorris_start(d: *mut Device, polyphony: u8, id: u8) -> record::AnswerNumbers;
     fn muntinorris_byte(d: *mut Device, byte: u8) -> record::AnswerNumbers;
@@ -102,6 +106,7 @@ extern "C" {
     fn muntinorris_generator(d: *const Device, generator: u8) -> record::GeneratorNumbers;
     fn muntinorris_mask(d: *const Device, channel: u8) -> record::MaskNumbers;
     fn muntinorris_share(d: *const Device, channel: u8) -> record::ShareNumbers;
+    fn muntinorris_page(d: *const Device, page: *mut u8, length: usize) -> u8;
     fn muntinorris_pitch(key: u8, sensitivity: u8, bend: u16) -> record::PitchNumbers;
     fn muntinorris_gains(expression: u8, volume: u8, pan: u8) -> record::GainNumbers;
     fn muntinorris_channel_gains(c: *const Channel) -> record::GainNumbers;
@@ -199,6 +204,28 @@ impl Device {
     pub fn share(&self, channel: u8) -> Result<u8, Refused> {
         let n = unsafe { muntinorris_share(self, channel) };
         answered(n.number, n.share)
+    }
+
+    /// The service page, the state of the device as text, in the first [`PAGE_BYTES`] of a buffer; its other bytes stay. Number 18 for a shorter one, which is then untouched. Under a
+    /// head stand channels 1 to 16, a line each: channel, place in the order of the MIP table (from 1), value, share, `M` if masked else `-`, and busy generators, held or sustained.
+    /// Place and value of a channel that is not listed, and the share of a masked one, are filled with `-`.
+    ///
+    /// ```
+    /// use muntinorris::{Device, PAGE_BYTES};
+    ///
+    /// let (mut device, _) = Device::start(2, 0);
+    /// for byte in [0xF0, 0x7F, 0x7F, 0x0B, 0x01, 0x00, 0x01, 0x01, 0x02, 0xF7, 0x90, 60, 64] {
+    ///     device.byte(byte);
+    /// }
+    /// let mut page = [0; PAGE_BYTES];
+    /// device.page(&mut page).unwrap();
+    /// let text = std::str::from_utf8(&page).unwrap();
+    /// assert!(text.starts_with("CH PR VAL SHR M NT\n 1  1   1   1 -  1\n 2  2   2   1 -  0\n 3 -- --- --- M  0\n"));
+    /// assert_eq!(device.page(&mut page[1..]).unwrap_err().0, 18);
+    /// ```
+    pub fn page(&self, page: &mut [u8]) -> Result<(), Refused> {
+        // SAFETY: the pointers are to a device, which the call reads and does not keep, and to as many bytes as the length says, which nobody else has for the call.
+        answered(unsafe { muntinorris_page(self, page.as_mut_ptr(), page.len()) }, ())
     }
 }
 

@@ -1,4 +1,5 @@
 -- The walks that several functions share.
+pub mod LookedInto
 pub mod Copied
 pub mod Numbering
 pub mod PassedOn

@@ -1,10 +1,12 @@
 // The device for C and Rust: functions over a record that the caller owns and lends, and answers in plain numbers (include/muntinorris.h). Every one has the exact contract of
 // the call by value that it stands for, for every value of the record. Assumes nothing; a pointer that is no record is the caller's error.
 ghost use mathlib.Core.Path.{_≡_};
+ghost use Rattle.loops.specs.Cases.{orZero};
 ghost use Rattle.device.specs.Device.{started};
 ghost use Rattle.events.specs.Events.{taken};
 ghost use Rattle.events.specs.declared.Event.the-variants.{Byte, Report};
 ghost use Rattle.queries.specs.Queries.{generatorQuery, deviceMask, deviceShare};
+ghost use Rattle.service.specs.Page.{pageNumber, pageAfter, pageAnswer};
 ghost use Rattle.pitch.specs.Pitch.{pitchOf};
 ghost use Rattle.song.specs.Song.{songAnswer, songWritten};
 ghost use Rattle.arranging.specs.Arranging.{message};
@@ -70,6 +72,14 @@ pub extern "C" fn muntinorris_share(d: &Device, channel: u8) -> ShareNumbers
     ensures { λ r. ⌜ r ≡ shareNumbers (deviceShare (now (d .entry)) channel) ⌝ }
 {
     numbers::share_numbers(*d, channel)
+}
+
+// The service page, in the first 323 bytes of the lent buffer: 0, or 18 for a buffer that has fewer.
+#[no_mangle]
+pub extern "C" fn muntinorris_page(d: &Device, page: &mut [u8]) -> u8
+    ensures { λ r. ⌜ (r ≡ orZero (pageNumber (pageAnswer (now (page .entry))))) × (now (page .exit) ≡ pageAfter (now (d .entry)) (now (page .entry))) ⌝ }
+{
+    numbers::page_number(*d, page)
 }
 
 // The pitch of a key, with the sensitivity and the bend of its channel.

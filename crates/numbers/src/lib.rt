@@ -1,6 +1,8 @@
 // The answers in plain numbers, as C and Rust have them (include/muntinorris.h), by value, for every answer and every record. Assumes nothing.
 ghost use mathlib.Core.Path.{_≡_};
+ghost use Rattle.loops.specs.Cases.{orZero};
 ghost use Rattle.queries.specs.Queries.{generatorQuery, deviceMask, deviceShare};
+ghost use Rattle.service.specs.Page.{pageNumber, pageAfter, pageAnswer};
 ghost use Rattle.pitch.specs.Pitch.{pitchOf};
 ghost use Rattle.numbers.specs.Numbers.{wasNumber, numbersOf, generatorNumbers, maskNumbers, shareNumbers, pitchNumbers, GainsTold, GainsToldOf, refusedSong, songNumbers};
 use allocation::Was;
@@ -10,6 +12,7 @@ use gains::GainsAnswer;
 use pitch::PitchAnswer;
 use playing::Answer;
 use queries::GeneratorAnswer;
+use service::PageAnswer;
 use shares::MaskAnswer;
 use shares::ShareAnswer;
 use song::SongAnswer;
@@ -178,6 +181,16 @@ pub fn share_numbers(d: Device, channel: u8) -> ShareNumbers
             number: 14,
             share: 0,
         },
+    }
+}
+
+// The service page into a lent buffer: 0, or number 18 for a buffer that is too short.
+pub fn page_number(d: Device, page: &mut [u8]) -> u8
+    ensures { λ r. ⌜ (r ≡ orZero (pageNumber (pageAnswer (now (page .entry))))) × (now (page .exit) ≡ pageAfter d (now (page .entry))) ⌝ }
+{
+    match service::write_page(d, page) {
+        PageAnswer::Written => 0,
+        PageAnswer::TooShort => 18,
     }
 }
 

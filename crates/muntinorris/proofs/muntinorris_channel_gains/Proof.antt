@@ -13,7 +13,7 @@ use Rattle.muntinorris.proofs.muntinorris_channel_gains.Statement as st
 use Rattle.muntinorris.proofs.muntinorris_channel_gains.Code as code
 
 abbrev asked : Asked
-asked = record { name = asked-def.name; of = D.the-type; of-laws = D′.the-laws; of-plain = D′.the-plain; of-copy = D′.the-copy; out = O.the-type; laws = O′.the-laws; plain = O′.the-plain; Told = λ c r. GainsToldOf c r }
+asked = record { name = asked-def.name; of = record { kind = D.the-type; laws = D′.the-laws; plain = D′.the-plain; copies = D′.the-copy }; out = O.the-type; laws = O′.the-laws; plain = O′.the-plain; Told = λ c r. GainsToldOf c r }
 
 pub muntinorris-channel-gains-spec : {M : Type 1} → stated.statement M
 unfolding code.routine

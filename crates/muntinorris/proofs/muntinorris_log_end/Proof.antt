@@ -14,7 +14,7 @@ use Rattle.muntinorris.proofs.muntinorris_log_end.Statement as stated
 use Rattle.muntinorris.proofs.muntinorris_log_end.Code as code
 
 abbrev asked : Asked
-asked = record { name = asked-def.name; of = D.the-type; of-laws = D′.the-laws; of-plain = D′.the-plain; of-copy = D′.the-copy; out = O.the-type; laws = O′.the-laws; plain = O′.the-plain; Told = λ l r. r ≡ finished l }
+asked = record { name = asked-def.name; of = record { kind = D.the-type; laws = D′.the-laws; plain = D′.the-plain; copies = D′.the-copy }; out = O.the-type; laws = O′.the-laws; plain = O′.the-plain; Told = λ l r. r ≡ finished l }
 
 pub muntinorris-log-end-spec : {M : Type 1} → stated.statement M
 unfolding code.routine
