@@ -1,10 +1,11 @@
 //! Feeds two implementations the same lists and compares answers, queries and whole records after
-//! every event, with the book and its claims beside them.
+//! every event, and service pages now and then, with the book and its claims beside them.
 
 use crate::book::Slip;
 use crate::claims::{Claims, Exercised};
 use crate::gains::Compared;
 use crate::lists::{Event, Kind, List};
+use crate::pages::{self, Pages};
 use crate::record::{difference, Given, Implementation, Malformed, Record};
 use crate::tally::Tally;
 use paper::{Answer, Number};
@@ -18,6 +19,7 @@ pub struct Reached {
     pub lists: u64,
     pub tally: Tally,
     pub claims: Exercised,
+    pub pages: pages::Reached,
 }
 
 /// The first difference of a run.
@@ -66,12 +68,15 @@ where
     /// Runs at least so many events, to the end of the last list.
     pub fn run(&self, seed: u64, events: u64) -> (Reached, Option<Failure>) {
         let mut random = Random::new(seed);
+        let mut pages = Pages::new(seed);
         let mut reached = Reached::default();
         while reached.events < events {
             reached.lists += 1;
             let list = List::new(&mut random, reached.lists);
             let before = reached.events;
-            if let Err(what) = self.list(&list, &mut random, &mut reached) {
+            let outcome = self.list(&list, &mut random, &mut pages, &mut reached);
+            reached.pages = pages.reached.clone();
+            if let Err(what) = outcome {
                 let within = (reached.events - before) as usize;
                 let failure = Failure {
                     what,
@@ -86,7 +91,13 @@ where
         (reached, None)
     }
 
-    fn list(&self, list: &List, random: &mut Random, reached: &mut Reached) -> Result<(), String> {
+    fn list(
+        &self,
+        list: &List,
+        random: &mut Random,
+        pages: &mut Pages,
+        reached: &mut Reached,
+    ) -> Result<(), String> {
         let (mut a, answer_a) = (self.start_a)(list.polyphony, list.id);
         let (mut b, answer_b) = (self.start_b)(list.polyphony, list.id);
         let answer = same("start", answer_a, answer_b)?;
@@ -94,6 +105,7 @@ where
         let mut claims = Claims::new(list.polyphony, list.id, answer, self.slip);
         let mut record = same_record(&a, &b)?;
         claims.record(&record)?;
+        pages.compare(&mut a, &mut b, &record, claims.book())?;
         for &event in &list.events {
             reached.events += 1;
             let answer = same("answer", happen(&mut a, event), happen(&mut b, event))?;
@@ -108,6 +120,9 @@ where
             queries(&a, &b, random, &mut reached.tally)?;
             if random.one_in(8) {
                 probe(&a, &b, random)?;
+            }
+            if reached.events % pages::EVERY == 0 {
+                pages.compare(&mut a, &mut b, &record, claims.book())?;
             }
         }
         Ok(())

@@ -5,7 +5,8 @@ use crate::compare::{Comparison, Failure};
 use crate::plain::{Mistake, Plain, MISTAKES};
 use crate::plain_pitch::{self, PlainPitch};
 use crate::{
-    arranging_self_test, gains_self_test, hardest_song_self_test, library, pitches, reference,
+    arranging_self_test, gains_self_test, hardest_song_self_test, library, pages_self_test,
+    pitches, reference,
 };
 use random::Random;
 
@@ -55,6 +56,7 @@ pub fn run(seed: u64) -> Vec<String> {
         let name = format!("bound with {slip:?}");
         complaints.extend(expect(&name, "ticket 14", wrong_book(slip, seed)));
     }
+    complaints.extend(pages_self_test::run(seed));
     complaints.extend(wrong_pitches(seed));
     complaints.extend(wrong_entries(seed));
     complaints.extend(gains_self_test::run(seed));
