@@ -56,6 +56,8 @@ pub struct Comparison<StartA, StartB> {
     pub start_a: StartA,
     pub start_b: StartB,
     pub slip: Option<Slip>,
+    /// Are service pages compared as well?
+    pub pages: bool,
 }
 
 impl<A, B, StartA, StartB> Comparison<StartA, StartB>
@@ -88,7 +90,44 @@ where
                 return (reached, Some(failure));
             }
         }
+        if self.pages {
+            let filled = self.fill(&mut pages, reached.events);
+            reached.pages = pages.reached;
+            return (reached, filled.err());
+        }
         (reached, None)
+    }
+
+    /// Devices of every P that fill with notes of one channel, and a page after each: few lists have so many on one.
+    fn fill(&self, pages: &mut Pages, event: u64) -> Result<(), Failure> {
+        for polyphony in 1..=64 {
+            let status = 0x90 | polyphony % 16;
+            let keys = (0..polyphony).flat_map(|key| [key, 64]);
+            let bytes: Vec<u8> = [status].into_iter().chain(keys).collect();
+            let failure = |what| Failure {
+                what,
+                event,
+                kind: Kind::Playing,
+                start: (polyphony, 0),
+                recent: bytes.iter().map(|&byte| Event::Byte(byte)).collect(),
+            };
+            self.fill_with(pages, polyphony, &bytes).map_err(failure)?;
+        }
+        Ok(())
+    }
+
+    fn fill_with(&self, pages: &mut Pages, polyphony: u8, bytes: &[u8]) -> Result<(), String> {
+        let (mut a, answer_a) = (self.start_a)(polyphony, 0);
+        let (mut b, answer_b) = (self.start_b)(polyphony, 0);
+        let answer = same("start", answer_a, answer_b)?;
+        let mut claims = Claims::new(polyphony, 0, answer, self.slip);
+        for &byte in bytes {
+            let answer = same("answer", a.byte(byte), b.byte(byte))?;
+            claims.event(Event::Byte(byte), answer, &mut Exercised::default())?;
+            let record = same_record(&a, &b)?;
+            pages.with_room(&mut a, &mut b, &record, claims.book())?;
+        }
+        Ok(())
     }
 
     fn list(
@@ -105,7 +144,9 @@ where
         let mut claims = Claims::new(list.polyphony, list.id, answer, self.slip);
         let mut record = same_record(&a, &b)?;
         claims.record(&record)?;
-        pages.compare(&mut a, &mut b, &record, claims.book())?;
+        if self.pages {
+            pages.with_room(&mut a, &mut b, &record, claims.book())?;
+        }
         for &event in &list.events {
             reached.events += 1;
             let answer = same("answer", happen(&mut a, event), happen(&mut b, event))?;
@@ -121,8 +162,8 @@ where
             if random.one_in(8) {
                 probe(&a, &b, random)?;
             }
-            if reached.events % pages::EVERY == 0 {
-                pages.compare(&mut a, &mut b, &record, claims.book())?;
+            if self.pages && reached.events % pages::EVERY == 0 {
+                pages.turn(&mut a, &mut b, &record, claims.book())?;
             }
         }
         Ok(())
@@ -154,7 +195,8 @@ fn well_formed<T>(what: &str, a: Given<T>, b: Given<T>) -> Result<(T, T), String
     }
 }
 
-fn same_record(a: &impl Implementation, b: &impl Implementation) -> Result<Record, String> {
+/// The record of both sides, if it is the same.
+pub fn same_record(a: &impl Implementation, b: &impl Implementation) -> Result<Record, String> {
     let (a, b) = well_formed("record", a.record(), b.record())?;
     match difference(&a, &b) {
         Some(what) => Err(what),

@@ -119,6 +119,7 @@ fn differential(options: &Options) -> Result<(), String> {
         start_a: reference::start,
         start_b: library::start,
         slip: None,
+        pages: true,
     };
     let clock = Instant::now();
     let (mut reached, failure) = comparison.run(options.seed, options.events);

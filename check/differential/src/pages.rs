@@ -1,14 +1,16 @@
 //! Asks two implementations for their service pages in the middle of a list and compares number and bytes, and holds the page
 //! against the library's own queries and against the note book.
 //!
-//! Buffers are of any length and full of rubbish, with more of it on both sides. The random numbers are of its own, so that the
-//! lists are the same with pages and without.
+//! Half of the pages are of copies that have just taken a MIP message: the lists seldom have values of three digits. Buffers are of
+//! any length and full of rubbish, with more of it on both sides. The random numbers are of its own, so that the lists are the
+//! same with pages and without.
 
 use crate::book::Book;
-use crate::compare::same;
+use crate::compare::{same, same_record};
 use crate::library;
 use crate::record::{Given, Implementation, Malformed, Record};
-use paper::{Entry, GeneratorView, Number, State, PAGE_BYTES};
+use crate::split::Message;
+use paper::{Answer, Entry, GeneratorView, Number, State, PAGE_BYTES};
 use random::Random;
 use std::fmt::Write;
 
@@ -95,8 +97,23 @@ pub fn some_length(random: &mut Random) -> usize {
     }
 }
 
+/// A MIP message without F0 and F7: some channels in any order, with values from 0 to P, to one more or to 127.
+fn some_table(random: &mut Random, polyphony: u8) -> Vec<u8> {
+    let mut channels: Vec<u8> = (0..16).collect();
+    random.shuffle(&mut channels);
+    channels.truncate(1 + random.below(16));
+    let most = random.pick(&[polyphony, polyphony + 1, 127]);
+    let mut some_value = || random.below(usize::from(most) + 1) as u8;
+    let mut values: Vec<u8> = channels.iter().map(|_| some_value()).collect();
+    values.sort_unstable();
+    let mut table = vec![0x7F, 0x7F, 0x0B, 0x01];
+    let pairs = channels.into_iter().zip(values);
+    table.extend(pairs.flat_map(|(channel, value)| [channel, value]));
+    table
+}
+
 /// Kinds of lines and buffers that a run must reach.
-const KINDS: [&str; 19] = [
+const KINDS: [&str; 20] = [
     "listed",
     "masked",
     "unlisted",
@@ -109,6 +126,7 @@ const KINDS: [&str; 19] = [
     "two-digit share",
     "share 0",
     "two-digit count",
+    "count of 64",
     "held and sustained",
     "busy and releasing",
     "releasing alone",
@@ -164,6 +182,7 @@ impl Reached {
             let busy_count = record.generators.iter().filter(|view| {
                 is(view, channel, State::Held) || is(view, channel, State::Sustained)
             });
+            let busy_count = busy_count.count();
             let of_line = [
                 share.is_some(),
                 at.is_some() && share.is_none(),
@@ -176,7 +195,8 @@ impl Reached {
                 at.is_some_and(|at| at + 1 >= 10),
                 share.is_some_and(|share| share >= 10),
                 share == Some(0),
-                busy_count.count() >= 10,
+                busy_count >= 10,
+                busy_count == 64,
                 held && sustained,
                 busy && releasing,
                 !busy && releasing,
@@ -233,8 +253,9 @@ impl Pages {
         }
     }
 
-    /// Compares the pages of both sides, whose record is this and whose book is that.
-    pub fn compare(
+    /// Compares the pages of both sides, whose record is this and whose book is that, in a buffer of any length; every other time
+    /// those of copies that have just taken another table.
+    pub fn turn(
         &mut self,
         a: &mut impl Implementation,
         b: &mut impl Implementation,
@@ -242,6 +263,42 @@ impl Pages {
         book: &Book,
     ) -> Result<(), String> {
         let length = some_length(&mut self.random);
+        if self.random.one_in(2) {
+            return self.compare(length, a, b, record, book);
+        }
+        let table = some_table(&mut self.random, record.polyphony);
+        let (mut a, mut b, mut book) = (a.clone(), b.clone(), book.clone());
+        let next = |what: String| format!("if the table {table:02X?} came next: {what}");
+        let mut last = Answer::None;
+        for byte in [&[0xF0], &table[..], &[0xF7]].concat() {
+            last = same("answer", a.byte(byte), b.byte(byte)).map_err(next)?;
+        }
+        let record = same_record(&a, &b).map_err(next)?;
+        book.message(&Message::SysEx(table.clone()), last);
+        let found = self.compare(length, &mut a, &mut b, &record, &book);
+        found.map_err(|what| format!("{what}, behind the table {table:02X?}"))
+    }
+
+    /// Compares the pages of both sides in a buffer that has room.
+    pub fn with_room(
+        &mut self,
+        a: &mut impl Implementation,
+        b: &mut impl Implementation,
+        record: &Record,
+        book: &Book,
+    ) -> Result<(), String> {
+        let length = PAGE_BYTES + self.random.below(78);
+        self.compare(length, a, b, record, book)
+    }
+
+    fn compare(
+        &mut self,
+        length: usize,
+        a: &mut impl Implementation,
+        b: &mut impl Implementation,
+        record: &Record,
+        book: &Book,
+    ) -> Result<(), String> {
         let mut memory_a = self.rubbish.memory(&mut self.random, length);
         let mut memory_b = self.rubbish.memory(&mut self.random, length);
         let (given_a, given_b) = (a.page(&mut memory_a), b.page(&mut memory_b));

@@ -82,6 +82,7 @@ fn one_side(page: PlainPage, seed: u64) -> Option<Failure> {
         start_a: reference::start,
         start_b: |polyphony, id| Plain::with_page(page, polyphony, id),
         slip: None,
+        pages: true,
     };
     comparison.run(seed, WITHIN).1
 }
@@ -91,6 +92,7 @@ fn both_sides(page: PlainPage, seed: u64) -> Option<Failure> {
         start_a: |polyphony, id| Plain::with_page(page, polyphony, id),
         start_b: |polyphony, id| Plain::with_page(page, polyphony, id),
         slip: None,
+        pages: true,
     };
     comparison.run(seed, WITHIN).1
 }

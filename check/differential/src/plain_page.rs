@@ -216,7 +216,7 @@ mistakes! {
     Count0Blank,
     CountOfMaskedMissing,
     CountOfDrumsMissing,
-    KeysCountedOnce,
+    SoundingKeysCountedOnce,
     IdleForBusy,
     CountAsAMark,
     // All of it.
@@ -825,7 +825,7 @@ impl PlainPage {
             Some(Mistake::CountHeldAtTheShare) => right.min(share(shown, channel).unwrap_or(0)),
             Some(Mistake::CountHeldAt63) => right.min(63),
             Some(Mistake::CountOfDrumsMissing) if channel == 9 => 0,
-            Some(Mistake::KeysCountedOnce) => {
+            Some(Mistake::SoundingKeysCountedOnce) => {
                 let of_channel = |view: &&GeneratorView| view.channel == channel + 1;
                 let keys = shown.generators.iter().filter(of_channel);
                 let mut keys: Vec<u8> = keys.map(|view| view.key).collect();

@@ -10,7 +10,7 @@ use crate::{
 };
 use random::Random;
 
-/// Every wrong variant must be found within so many events.
+/// Every wrong variant must be found within so many events, without a look at pages: those have a self-test of their own.
 const WITHIN: u64 = 1_000_000;
 
 /// Mistakes that both sides make alike: the comparison cannot see them, the claims must.
@@ -36,6 +36,7 @@ pub fn run(seed: u64) -> Vec<String> {
         start_a: reference::start,
         start_b: |polyphony, id| Plain::start(None, polyphony, id),
         slip: None,
+        pages: true,
     };
     if let (_, Some(failure)) = right.run(seed, WITHIN) {
         complaints.push(format!("no mistake at all: {failure}"));
@@ -110,6 +111,7 @@ fn one_side(mistake: Mistake, seed: u64) -> Option<Failure> {
         start_a: reference::start,
         start_b: |polyphony, id| Plain::start(Some(mistake), polyphony, id),
         slip: None,
+        pages: false,
     };
     comparison.run(seed, WITHIN).1
 }
@@ -119,6 +121,7 @@ fn both_sides(mistake: Mistake, seed: u64) -> Option<Failure> {
         start_a: |polyphony, id| Plain::start(Some(mistake), polyphony, id),
         start_b: |polyphony, id| Plain::start(Some(mistake), polyphony, id),
         slip: None,
+        pages: false,
     };
     comparison.run(seed, WITHIN).1
 }
@@ -128,6 +131,7 @@ fn wrong_book(slip: Slip, seed: u64) -> Option<Failure> {
         start_a: reference::start,
         start_b: reference::start,
         slip: Some(slip),
+        pages: false,
     };
     comparison.run(seed, WITHIN).1
 }
