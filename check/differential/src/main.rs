@@ -295,7 +295,7 @@ fn print(reached: &Reached, seconds: f64) {
         reached.events, reached.lists
     );
     println!(
-        "{} pages compared, {} of them refused, each held against the library's queries and the note book, no difference; lines: {}",
+        "{} calls for pages compared, {} of them refused, no difference; each page agrees with the library's queries and with the note book; lines: {}",
         reached.pages.pages,
         reached.pages.refused,
         reached.pages.words()

@@ -11,13 +11,14 @@ use paper::PAGE_BYTES;
 const WITHIN: u64 = 1_000_000;
 
 /// What finds a mistake that both sides make.
-const FINDERS: [(&str, &str); 6] = [
+const FINDERS: [(&str, &str); 7] = [
     ("both sides answer", "by the limit"),
     ("was written", "by memory that must not be written"),
     ("is no count", "by the form of a count"),
     ("generators are busy", "by the sum of the counts"),
     ("by the queries", "by the queries"),
     ("by the book", "by the book"),
+    ("\" against \"", "by rubbish that was left"),
 ];
 
 /// Runs all of it and says what was not as it should be; nothing if all is well.
@@ -51,8 +52,7 @@ pub fn run(seed: u64) -> Vec<String> {
     complaints
 }
 
-/// Which of `FINDERS` found it. Two sides whose pages are wrong alike differ where one did not write a byte that the other did not
-/// either: there they hold other rubbish.
+/// Which of `FINDERS` found it. Where neither side writes a byte, they hold different rubbish.
 fn finder(what: &str) -> Option<usize> {
     FINDERS.iter().position(|(words, _)| what.contains(words))
 }
