@@ -285,7 +285,7 @@ fn rubbish(seed: u64) -> Result<(), String> {
     );
     let survived = library::survive_pages(&mut Random::new(seed), RECORDS);
     survived.map_err(|found| format!("the page of a record full of rubbish: {found}"))?;
-    println!("{RECORDS} pages of such records: 17 lines each, and nothing else written");
+    println!("{RECORDS} calls for pages of such records: 17 lines or number 18, and nothing else written");
     Ok(())
 }
 

@@ -8,7 +8,7 @@
 use crate::book::Book;
 use crate::compare::{same, same_record};
 use crate::library;
-use crate::record::{Given, Implementation, Malformed, Record};
+use crate::record::{Implementation, Record};
 use crate::split::Message;
 use paper::{Answer, Entry, GeneratorView, Number, State, PAGE_BYTES};
 use random::Random;
@@ -313,7 +313,7 @@ impl Pages {
         };
         self.reached.count_lines(record);
         sums_up(page, record)?;
-        agrees_with_queries(page, b, record.polyphony)?;
+        agrees_with_queries(page, a, b, record.polyphony)?;
         agrees_with_book(page, book)
     }
 }
@@ -390,22 +390,26 @@ fn sums_up(page: &[u8], record: &Record) -> Result<(), String> {
     }
 }
 
-/// What the queries say of share, mask and generators, one by one, is what stands in the last three columns.
+/// What the queries of both sides say of share, mask and generators, one by one, is what stands in the last three columns.
 fn agrees_with_queries(
     page: &[u8],
-    device: &impl Implementation,
+    a: &impl Implementation,
+    b: &impl Implementation,
     polyphony: u8,
 ) -> Result<(), String> {
     let mut busy = [0; 256];
     for generator in 0..polyphony {
-        let view = asked(device.generator(generator))?;
+        let views = (a.generator(generator), b.generator(generator));
+        let view = accepted(same("generator query", views.0, views.1)?)?;
         let is_busy = matches!(view.state, State::Held | State::Sustained);
         busy[usize::from(view.channel)] += u8::from(is_busy);
     }
     for (channel, row) in rows(page) {
-        let share = match asked(device.masked(channel))? {
-            true => "--- M".to_string(),
-            false => format!("{:3} -", asked(device.share(channel))?),
+        let masked = same("mask query", a.masked(channel), b.masked(channel))?;
+        let share = same("share query", a.share(channel), b.share(channel))?;
+        let share = match (accepted(masked)?, accepted(share)?) {
+            (true, _) => "--- M".to_string(),
+            (false, share) => format!("{share:3} -"),
         };
         let expected = format!("{channel:2}|{share} {:2}", busy[usize::from(channel)]);
         let shown = [&row[..2], b"|", &row[10..]].concat();
@@ -420,12 +424,8 @@ fn agrees_with_queries(
 }
 
 /// What a query gave that must not be refused.
-fn asked<T>(given: Given<Result<T, Number>>) -> Result<T, String> {
-    match given {
-        Ok(Ok(value)) => Ok(value),
-        Ok(Err(number)) => Err(format!("page: a query is refused by {number:?}")),
-        Err(Malformed(found)) => Err(format!("page: nobody may give {found}")),
-    }
+fn accepted<T>(answer: Result<T, Number>) -> Result<T, String> {
+    answer.map_err(|number| format!("page: a query is refused by {number:?}"))
 }
 
 /// The whole page is that of the book: its notes, and its table with P.
