@@ -13,6 +13,7 @@ struct muntinorris_answer right_report(struct muntinorris_device *d, uint8_t gen
 struct muntinorris_generator_answer right_generator(const struct muntinorris_device *d, uint8_t generator);
 struct muntinorris_mask_answer right_mask(const struct muntinorris_device *d, uint8_t channel);
 struct muntinorris_share_answer right_share(const struct muntinorris_device *d, uint8_t channel);
+uint8_t right_page(const struct muntinorris_device *d, uint8_t *page, size_t length);
 struct muntinorris_pitch_answer right_pitch(uint8_t key, uint8_t sensitivity, uint16_t bend);
 struct muntinorris_gains_answer right_gains(uint8_t expression, uint8_t volume, uint8_t pan);
 struct muntinorris_gains_answer right_channel_gains(const struct muntinorris_channel *channel);
@@ -109,6 +110,34 @@ struct muntinorris_share_answer muntinorris_share(const struct muntinorris_devic
     if (is_wrong("share"))
         change(&a);
     return a;
+}
+
+/*
+ * It waits for no byte: there is a page at the start already. AT counts from the beginning of the buffer, and from its end where memory behind it is meant, from the page's end where the
+ * buffer behind that is. No record of ours has a polyphony above 64.
+ */
+uint8_t muntinorris_page(const struct muntinorris_device *d, uint8_t *page, size_t length)
+{
+    uint8_t number = right_page(d, page, length);
+    long at = getenv("AT") ? atol(getenv("AT")) : 0;
+    int rubbish = d->instrument.polyphony > 64, nowhere = length == 0 && (uintptr_t)page < 8192;
+
+    if (length > 0 && is_meant(number == 0 ? "memory by a page" : "memory by a refused page"))
+        change(at < 0 ? page : page + length);
+    if (number == 0 && is_meant("written page"))
+        change(page);
+    if (number == 0 && at >= 0 && (size_t)at < length - MUNTINORRIS_PAGE_BYTES && is_meant("buffer behind a page"))
+        change(page + MUNTINORRIS_PAGE_BYTES);
+    if (number != 0 && at >= 0 && (size_t)at < length && is_meant("buffer of a refused page"))
+        change(page);
+    if (rubbish && length > MUNTINORRIS_PAGE_BYTES && is_meant("page of rubbish"))
+        change(page);
+    if (is_meant("record of a page") || (rubbish && is_meant("record of a page of rubbish")) || (nowhere && is_meant("record of a page nowhere")))
+        change((void *)d);
+    if (is_meant(number == 0 ? "number of a page" : "number of a refused page") || (nowhere && is_meant("number of a page nowhere")) ||
+        (rubbish && is_meant(number == 0 ? "number of a page of rubbish" : "number of a refused page of rubbish")))
+        change(&number);
+    return number;
 }
 
 /* It has no record, and so waits for no byte. */

@@ -22,7 +22,7 @@ enum Target {
     Pitch,
     /// Gains at most 120.
     Gains,
-    /// Nothing, as for a refused pitch or song, or a line of a log.
+    /// Nothing, as for a page, a refused pitch or song, or a line of a log.
     None,
     /// The mean over a stream, a song or a log.
     Mean,
@@ -356,6 +356,25 @@ pub fn run_songs<S: Subject>() {
         print_line(name, n, target);
     }
 }
+
+/// Pages, in a run of their own: a side may ask its own queries for them, by calls that are counted elsewhere.
+pub fn run_pages<S: Subject>() {
+    let mut buffer = [0; PAGE];
+    for shown in streams::shown() {
+        let mut device = S::start(shown.polyphony);
+        feed(&mut device, &shown.heard);
+        bench_mark();
+        black_box(device.page(black_box(&mut buffer)));
+        bench_mark();
+        print_line(shown.name, 1, Target::None);
+    }
+    let mut device = S::start(64);
+    bench_mark();
+    black_box(device.page(black_box(&mut buffer[..PAGE - 1])));
+    bench_mark();
+    print_line("page, number 18", 1, Target::None);
+}
+const PAGE: usize = 323;
 
 /// Logs, in a run of their own as songs are.
 pub fn run_logs<S: Subject>() {

@@ -1,4 +1,4 @@
-//! The streams, the pitches and gains, and the log, that both implementations are timed on.
+//! The streams, the devices whose pages are asked for, the pitches and gains, and the log, that both implementations are timed on.
 
 use random::Random;
 
@@ -24,6 +24,28 @@ pub fn all() -> Vec<Stream> {
         noise(),
         controllers(),
         worst_song(),
+    ]
+}
+
+/// A device whose page is asked for: its P, and what it has heard.
+pub struct Shown {
+    pub name: &'static str,
+    pub polyphony: u8,
+    pub heard: Vec<u8>,
+}
+
+/// A fresh device, one with every generator busy, and one of which the page has every kind of line.
+pub fn shown() -> [Shown; 3] {
+    let shown = |name, polyphony, heard| Shown {
+        name,
+        polyphony,
+        heard,
+    };
+    let listed = [(DRUM_CHANNEL, 0), (0, 4), (1, 24), (2, 25), (3, 127)];
+    [
+        shown("page, fresh, P 64", 64, Vec::new()),
+        shown("page, 4 notes each, P 64", 64, four_notes_each()),
+        shown("page, masked, unlisted, P 24", 24, mip(listed)),
     ]
 }
 

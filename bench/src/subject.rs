@@ -1,4 +1,4 @@
-//! What is measured: an implementation that takes bytes and reports, gives pitches and gains, writes songs and reads logs
+//! What is measured: an implementation that takes bytes and reports, gives pages, pitches and gains, writes songs and reads logs
 //! through calls that are not inlined, so that both sides pay for a call.
 
 /// An implementation with its answers reduced to what the measurement needs.
@@ -7,6 +7,8 @@ pub trait Subject: Clone {
     /// Takes a byte; true if it completed a message that was not refused.
     fn byte(&mut self, byte: u8) -> bool;
     fn report(&mut self, generator: u8) -> bool;
+    /// Writes the service page; true if the buffer had room for it.
+    fn page(&mut self, buffer: &mut [u8]) -> bool;
     /// The octave and the entry of a pitch, also of a refused one.
     fn pitch(key: u8, sensitivity: u8, bend: u16) -> (i8, u32);
     /// The gains left and right, also of a refused call.
@@ -42,6 +44,11 @@ impl Subject for Proved {
     #[inline]
     fn report(&mut self, generator: u8) -> bool {
         self.0.report(generator).what == proved::DONE
+    }
+
+    #[inline]
+    fn page(&mut self, buffer: &mut [u8]) -> bool {
+        self.0.page(buffer) == 0
     }
 
     #[inline]
@@ -105,6 +112,12 @@ fn paper_report(device: &mut paper::Device, generator: u8) -> paper::Answer {
 
 #[no_mangle]
 #[inline(never)]
+fn paper_page(device: &paper::Device, buffer: &mut [u8]) -> Result<(), paper::Number> {
+    device.page(buffer)
+}
+
+#[no_mangle]
+#[inline(never)]
 fn paper_pitch(key: u8, sensitivity: u8, bend: u16) -> Result<paper::Pitch, paper::Number> {
     paper::pitch(key, sensitivity, bend)
 }
@@ -161,6 +174,11 @@ impl Subject for Paper {
     #[inline]
     fn report(&mut self, generator: u8) -> bool {
         paper_report(&mut self.0, generator) == paper::Answer::Done
+    }
+
+    #[inline]
+    fn page(&mut self, buffer: &mut [u8]) -> bool {
+        paper_page(&self.0, buffer).is_ok()
     }
 
     #[inline]

@@ -1,10 +1,10 @@
-//! Times both implementations on each stream, on pitches, on gains, on a song and on a log, and prints what a byte, a pitch, a
-//! call for gains, the whole song or a line of the log costs.
+//! Times both implementations on each stream, on pages, on pitches, on gains, on a song and on a log, and prints what a byte, a
+//! page, a pitch, a call for gains, the whole song or a line of the log costs.
 //!
 //! The stream is cut into slices, and the two sides take each slice in alternation; of the times of a slice over several
 //! turns the median counts. So a machine that is busy with something else disturbs both sides alike, and little.
 
-use crate::streams::{self, Stream};
+use crate::streams::{self, Shown, Stream};
 use crate::subject::{Paper, Proved, Subject};
 use std::hint::black_box;
 use std::time::Instant;
@@ -25,13 +25,14 @@ const LOG_PART: usize = 4096;
 /// Prints a row for each stream; false if a target was missed.
 pub fn run() -> bool {
     println!(
-        "medians of {TURNS} turns, the sides in alternation; ns a byte, pitch, call for gains or line, million messages or lines a second"
+        "medians of {TURNS} turns, the sides in alternation; ns a byte, page, pitch, call for gains or line, million messages or lines a second"
     );
     println!(
         "{:30} {:>8} {:>8} {:>7} {:>8} {:>8}  target",
         "stream", "proved", "paper", "ratio", "proved", "paper"
     );
     let rows: Vec<bool> = streams::all().iter().map(print_row).collect();
+    streams::shown().iter().for_each(print_pages);
     print_pitches();
     print_gains();
     let song_met = print_song();
@@ -62,6 +63,42 @@ fn print_row(stream: &Stream) -> bool {
         messages(paper),
     );
     met || !aimed
+}
+
+/// So many pages of each device in a turn.
+const PAGES: usize = 1000;
+
+/// Prints what a page of a device costs.
+fn print_pages(shown: &Shown) {
+    let (mut one, mut other) = (showing::<Proved>(shown), showing::<Paper>(shown));
+    let (mut proved, mut paper) = (Vec::new(), Vec::new());
+    for _ in 0..TURNS {
+        let (seconds, page) = time_pages(&mut one);
+        proved.push(seconds);
+        let (seconds, page_too) = time_pages(&mut other);
+        paper.push(seconds);
+        assert_eq!(page, page_too, "the two sides answer differently");
+    }
+    print_calls(shown.name, PAGES, proved, paper);
+}
+
+fn showing<S: Subject>(shown: &Shown) -> S {
+    let mut device = S::start(shown.polyphony);
+    for &byte in &shown.heard {
+        device.byte(byte);
+    }
+    device
+}
+
+/// The seconds for so many pages of a device, and its page.
+fn time_pages<S: Subject>(device: &mut S) -> (f64, [u8; 323]) {
+    let mut buffer = [0; 323];
+    let clock = Instant::now();
+    let written = (0..PAGES).filter(|_| device.page(black_box(&mut buffer)));
+    let written = written.count();
+    let seconds = clock.elapsed().as_secs_f64();
+    assert_eq!(written, PAGES, "a page was refused");
+    (seconds, buffer)
 }
 
 /// Prints what a pitch costs, over random calls within the ranges.

@@ -88,6 +88,11 @@ impl Book {
         &self.notes[..usize::from(self.polyphony)]
     }
 
+    /// Channel minus 1 and value, by falling priority.
+    pub fn table(&self) -> &[(u8, u8)] {
+        &self.table
+    }
+
     pub fn notes_of(&self, channel: u8) -> impl Iterator<Item = Note> + '_ {
         self.notes()
             .iter()

@@ -60,6 +60,11 @@ impl Claims {
         }
     }
 
+    /// The book as it is now.
+    pub fn book(&self) -> &Book {
+        &self.book
+    }
+
     /// Takes an event with its answer, and checks what is claimed of thefts and refusals.
     pub fn event(
         &mut self,

@@ -1,10 +1,11 @@
 //! Feeds two implementations the same lists and compares answers, queries and whole records after
-//! every event, with the book and its claims beside them.
+//! every event, and service pages now and then, with the book and its claims beside them.
 
 use crate::book::Slip;
 use crate::claims::{Claims, Exercised};
 use crate::gains::Compared;
 use crate::lists::{Event, Kind, List};
+use crate::pages::{self, Pages};
 use crate::record::{difference, Given, Implementation, Malformed, Record};
 use crate::tally::Tally;
 use paper::{Answer, Number};
@@ -18,6 +19,7 @@ pub struct Reached {
     pub lists: u64,
     pub tally: Tally,
     pub claims: Exercised,
+    pub pages: pages::Reached,
 }
 
 /// The first difference of a run.
@@ -54,6 +56,8 @@ pub struct Comparison<StartA, StartB> {
     pub start_a: StartA,
     pub start_b: StartB,
     pub slip: Option<Slip>,
+    /// Are service pages compared as well?
+    pub pages: bool,
 }
 
 impl<A, B, StartA, StartB> Comparison<StartA, StartB>
@@ -66,12 +70,15 @@ where
     /// Runs at least so many events, to the end of the last list.
     pub fn run(&self, seed: u64, events: u64) -> (Reached, Option<Failure>) {
         let mut random = Random::new(seed);
+        let mut pages = Pages::new(seed);
         let mut reached = Reached::default();
         while reached.events < events {
             reached.lists += 1;
             let list = List::new(&mut random, reached.lists);
             let before = reached.events;
-            if let Err(what) = self.list(&list, &mut random, &mut reached) {
+            let outcome = self.list(&list, &mut random, &mut pages, &mut reached);
+            reached.pages = pages.reached.clone();
+            if let Err(what) = outcome {
                 let within = (reached.events - before) as usize;
                 let failure = Failure {
                     what,
@@ -83,10 +90,53 @@ where
                 return (reached, Some(failure));
             }
         }
+        if self.pages {
+            let filled = self.fill(&mut pages, reached.events);
+            reached.pages = pages.reached;
+            return (reached, filled.err());
+        }
         (reached, None)
     }
 
-    fn list(&self, list: &List, random: &mut Random, reached: &mut Reached) -> Result<(), String> {
+    /// Devices of every P that fill with notes of one channel, and a page after each: few lists have so many on one.
+    fn fill(&self, pages: &mut Pages, event: u64) -> Result<(), Failure> {
+        for polyphony in 1..=64 {
+            let status = 0x90 | polyphony % 16;
+            let keys = (0..polyphony).flat_map(|key| [key, 64]);
+            let bytes: Vec<u8> = [status].into_iter().chain(keys).collect();
+            let failure = |what| Failure {
+                what,
+                event,
+                kind: Kind::Playing,
+                start: (polyphony, 0),
+                recent: bytes.iter().map(|&byte| Event::Byte(byte)).collect(),
+            };
+            self.fill_with(pages, polyphony, &bytes).map_err(failure)?;
+        }
+        Ok(())
+    }
+
+    fn fill_with(&self, pages: &mut Pages, polyphony: u8, bytes: &[u8]) -> Result<(), String> {
+        let (mut a, answer_a) = (self.start_a)(polyphony, 0);
+        let (mut b, answer_b) = (self.start_b)(polyphony, 0);
+        let answer = same("start", answer_a, answer_b)?;
+        let mut claims = Claims::new(polyphony, 0, answer, self.slip);
+        for &byte in bytes {
+            let answer = same("answer", a.byte(byte), b.byte(byte))?;
+            claims.event(Event::Byte(byte), answer, &mut Exercised::default())?;
+            let record = same_record(&a, &b)?;
+            pages.with_room(&mut a, &mut b, &record, claims.book())?;
+        }
+        Ok(())
+    }
+
+    fn list(
+        &self,
+        list: &List,
+        random: &mut Random,
+        pages: &mut Pages,
+        reached: &mut Reached,
+    ) -> Result<(), String> {
         let (mut a, answer_a) = (self.start_a)(list.polyphony, list.id);
         let (mut b, answer_b) = (self.start_b)(list.polyphony, list.id);
         let answer = same("start", answer_a, answer_b)?;
@@ -94,6 +144,9 @@ where
         let mut claims = Claims::new(list.polyphony, list.id, answer, self.slip);
         let mut record = same_record(&a, &b)?;
         claims.record(&record)?;
+        if self.pages {
+            pages.with_room(&mut a, &mut b, &record, claims.book())?;
+        }
         for &event in &list.events {
             reached.events += 1;
             let answer = same("answer", happen(&mut a, event), happen(&mut b, event))?;
@@ -108,6 +161,9 @@ where
             queries(&a, &b, random, &mut reached.tally)?;
             if random.one_in(8) {
                 probe(&a, &b, random)?;
+            }
+            if self.pages && reached.events % pages::EVERY == 0 {
+                pages.turn(&mut a, &mut b, &record, claims.book())?;
             }
         }
         Ok(())
@@ -139,7 +195,8 @@ fn well_formed<T>(what: &str, a: Given<T>, b: Given<T>) -> Result<(T, T), String
     }
 }
 
-fn same_record(a: &impl Implementation, b: &impl Implementation) -> Result<Record, String> {
+/// The record of both sides, if it is the same.
+pub fn same_record(a: &impl Implementation, b: &impl Implementation) -> Result<Record, String> {
     let (a, b) = well_formed("record", a.record(), b.record())?;
     match difference(&a, &b) {
         Some(what) => Err(what),

@@ -4,14 +4,15 @@
 //! idle": what breaks such a sentence is a difference as well.
 
 use crate::gains::{self, Answered, Levels};
-use crate::hardest_song::{self, Memory};
+use crate::hardest_song;
+use crate::pages::{self, Memory, Rubbish};
 use crate::pitches::Call;
 use crate::record::{Given, Implementation, Items, Malformed, Record, SysExBytes, IDLE};
 use paper::{Answer, Entry, GeneratorView, Number, Pitch, Progress, State, Was};
 use proved::{Channel, Device, SongAnswer, RECORD_BYTES};
 use random::Random;
 
-const NUMBERS: [Number; 20] = [
+const NUMBERS: [Number; 21] = [
     Number::PolyphonyOutOfRange,
     Number::IdOutOfRange,
     Number::StrayData,
@@ -29,6 +30,7 @@ const NUMBERS: [Number; 20] = [
     Number::LogOtherForm,
     Number::BadOrder,
     Number::LogSpoilt,
+    Number::PageTooShort,
     Number::PitchOutOfRange,
     Number::LevelOutOfRange,
     Number::SongTooLong,
@@ -69,6 +71,23 @@ impl Lent {
         }
         Err(Malformed("memory beside the record".to_string()))
     }
+
+    /// "The record is read and not changed", nor what is beside it.
+    fn is_as(&self, before: [u8; RECORD_BYTES]) -> Given<()> {
+        self.neighbours_untouched()?;
+        match self.device.bytes() == before {
+            true => Ok(()),
+            false => Err(Malformed("the record behind a page, changed".to_string())),
+        }
+    }
+
+    /// A page without a buffer.
+    pub fn page_nowhere(&mut self, address: usize) -> Given<Result<(), Number>> {
+        let before = self.device.bytes();
+        let number = self.device.page_nowhere(address);
+        self.is_as(before)?;
+        page_of(number)
+    }
 }
 
 pub fn start(polyphony: u8, id: u8) -> (Lent, Given<Answer>) {
@@ -90,6 +109,23 @@ pub fn survive_rubbish(random: &mut Random, records: usize) -> Given<()> {
             lent.device.gains(random.below(16));
         }
         lent.neighbours_untouched()?;
+    }
+    Ok(())
+}
+
+/// Pages of such records: each is 17 lines in a buffer that has room for them, and nothing else is written, nor is the record.
+pub fn survive_pages(random: &mut Random, records: usize) -> Result<(), String> {
+    let rubbish = Rubbish::new(random);
+    for _ in 0..records {
+        let mut lent = Lent::new(std::array::from_fn(|_| random.byte()));
+        let before = lent.device.bytes();
+        let length = pages::some_length(random);
+        let mut memory = rubbish.memory(random, length);
+        let mut other = rubbish.memory(random, length);
+        let number = lent.device.page(memory.buffer());
+        lent.device.page(other.buffer());
+        lent.is_as(before).map_err(|Malformed(found)| found)?;
+        pages::judge_rubbish(length, number, [&memory, &other])?;
     }
     Ok(())
 }
@@ -314,7 +350,7 @@ pub fn channel_gains(channel: Channel) -> Answered {
 }
 
 /// The hardest song, written to the memory's buffer.
-pub fn write_song(call: hardest_song::Call, memory: &mut Memory) -> SongAnswer {
+pub fn write_song(call: hardest_song::Call, memory: &mut hardest_song::Memory) -> SongAnswer {
     proved::write_song(call.polyphony, call.n, memory.buffer())
 }
 
@@ -324,6 +360,15 @@ pub fn song_of(raw: SongAnswer) -> Given<Result<u32, Number>> {
         None if raw.number == 0 => Ok(Ok(raw.thefts)),
         Some(number) if raw.thefts == 0 => Ok(Err(number)),
         _ => Err(Malformed(format!("{raw:?}"))),
+    }
+}
+
+/// A page, or the number of a buffer without room for one.
+pub fn page_of(number: u8) -> Given<Result<(), Number>> {
+    match number_of(number) {
+        None if number == 0 => Ok(Ok(())),
+        Some(number) => Ok(Err(number)),
+        None => Err(Malformed(format!("number {number}"))),
     }
 }
 
@@ -380,6 +425,13 @@ impl Implementation for Lent {
     fn share(&self, channel: u8) -> Given<Result<u8, Number>> {
         let raw = self.device.share(channel);
         query_of(raw.number, &[raw.share], Some(raw.share))
+    }
+
+    fn page(&mut self, memory: &mut Memory) -> Given<Result<(), Number>> {
+        let before = self.device.bytes();
+        let number = self.device.page(memory.buffer());
+        self.is_as(before)?;
+        page_of(number)
     }
 
     fn gains(&self, channel: usize) -> Answered {

@@ -1,5 +1,5 @@
 //! `differential`: the proved library and the second implementation on the same events and logs, and asked for the same
-//! pitches, gains and songs.
+//! pages, pitches, gains and songs.
 //!
 //! `--events N`, `--logs N` and `--seed S` choose the run; `--all-pitches` asks for every pitch there is, not for a sample;
 //! `--self-test` shows instead that the comparison finds wrong variants. The exit code is 0 only if nothing differed
@@ -22,10 +22,13 @@ mod lists;
 mod log_lines;
 mod logs;
 mod most_thefts;
+mod pages;
+mod pages_self_test;
 mod pitches;
 mod plain;
 mod plain_gains;
 mod plain_log;
+mod plain_page;
 mod plain_pitch;
 mod plain_song;
 mod record;
@@ -116,6 +119,7 @@ fn differential(options: &Options) -> Result<(), String> {
         start_a: reference::start,
         start_b: library::start,
         slip: None,
+        pages: true,
     };
     let clock = Instant::now();
     let (mut reached, failure) = comparison.run(options.seed, options.events);
@@ -127,6 +131,7 @@ fn differential(options: &Options) -> Result<(), String> {
     }
     let seconds = clock.elapsed().as_secs_f64();
     let tally = &mut reached.tally;
+    tally.refused(Number::PageTooShort, reached.pages.refused);
     let arranged = logs(options, tally)?;
     tally.refused(Number::PitchOutOfRange, pitches(options)?);
     tally.refused(
@@ -135,7 +140,9 @@ fn differential(options: &Options) -> Result<(), String> {
     );
     songs(tally)?;
     let held = most_thefts(options.seed)?;
+    let nowhere = pages::nowhere()?;
     print(&reached, seconds);
+    println!("{nowhere} calls for a page without a buffer, each refused");
     rubbish(options.seed)?;
     let mut missing = reached.tally.missing();
     if reached.claims.within_share_and_full == 0 || reached.claims.thefts_and_refusals == 0 {
@@ -144,6 +151,7 @@ fn differential(options: &Options) -> Result<(), String> {
     if reached.claims.at_most_thefts == 0 || held.at_the_bound == 0 {
         missing.push("the most thefts of ticket 14".to_string());
     }
+    missing.extend(reached.pages.missing());
     missing.extend(arranged.missing());
     if !missing.is_empty() {
         return Err(format!("never reached: {}", missing.join(", ")));
@@ -275,6 +283,9 @@ fn rubbish(seed: u64) -> Result<(), String> {
     println!(
         "{RECORDS} records and as many logs full of rubbish: every call returned and wrote nothing beside them"
     );
+    let survived = library::survive_pages(&mut Random::new(seed), RECORDS);
+    survived.map_err(|found| format!("the page of a record full of rubbish: {found}"))?;
+    println!("{RECORDS} calls for pages of such records: 17 lines or number 18, and nothing else written");
     Ok(())
 }
 
@@ -282,6 +293,12 @@ fn print(reached: &Reached, seconds: f64) {
     println!(
         "{} events in {} lists, {seconds:.1} s",
         reached.events, reached.lists
+    );
+    println!(
+        "{} calls for pages compared, {} of them refused, no difference; each page agrees with the library's queries and with the note book; lines: {}",
+        reached.pages.pages,
+        reached.pages.refused,
+        reached.pages.words()
     );
     print!("{}", reached.tally);
     println!("demand 3: {} note-ons within share, {} of them with every generator taken; {} thefts and refusals justified",

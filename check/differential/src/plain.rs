@@ -7,7 +7,9 @@ use crate::channel_gains::{EXPRESSION, PAN};
 use crate::drums::{excludes, DRUM_CHANNEL};
 use crate::gains::Answered;
 use crate::library;
+use crate::pages::Memory;
 use crate::plain_gains::PlainGains;
+use crate::plain_page::{PlainPage, Shown};
 use crate::record::{Given, Implementation, Items, Record, SysExBytes, IDLE};
 use paper::{Answer, Entry, GeneratorView, Number, Progress, State, Was, MOST_GENERATORS};
 use std::sync::LazyLock;
@@ -129,9 +131,17 @@ pub struct Plain {
     channels: [[u8; 11]; 16],
     generators: Vec<GeneratorView>,
     oldest_first: Vec<u8>,
+    /// A right page; what a wrong one shows is seen apart.
+    page: PlainPage,
 }
 
 impl Plain {
+    /// One that makes no mistake but with its page.
+    pub fn with_page(page: PlainPage, polyphony: u8, id: u8) -> (Plain, Given<Answer>) {
+        let (plain, answer) = Plain::start(None, polyphony, id);
+        (Plain { page, ..plain }, answer)
+    }
+
     pub fn start(mistake: Option<Mistake>, polyphony: u8, id: u8) -> (Plain, Given<Answer>) {
         let refused = |number| {
             let keeps = mistake == Some(Mistake::RefusedStartKeepsId);
@@ -164,6 +174,7 @@ impl Plain {
             channels: [FRESH_CHANNEL; 16],
             generators: vec![IDLE; usize::from(polyphony)],
             oldest_first: Vec::new(),
+            page: PlainPage::default(),
         }
     }
 
@@ -274,8 +285,9 @@ impl Plain {
     }
 
     fn reset(&mut self) -> Answer {
-        let channels = self.channels;
+        let (channels, page) = (self.channels, self.page);
         *self = Plain::fresh(self.mistake, self.polyphony, self.id);
+        self.page = page;
         if self.makes(Mistake::ResetKeepsControllers) {
             self.channels = channels;
         }
@@ -704,6 +716,15 @@ impl Implementation for Plain {
             1..=16 => Ok(self.share_of(channel - 1).unwrap_or(0)),
             _ => Err(Number::NoSuchChannel),
         })
+    }
+
+    fn page(&mut self, memory: &mut Memory) -> Given<Result<(), Number>> {
+        let shown = Shown {
+            polyphony: self.polyphony,
+            table: &self.table,
+            generators: &self.generators,
+        };
+        library::page_of(self.page.write(&shown, memory))
     }
 
     fn gains(&self, channel: usize) -> Answered {

@@ -2,6 +2,7 @@
 //! and what an implementation must offer to be compared.
 
 use crate::gains::Answered;
+use crate::pages::Memory;
 use paper::{
     Answer, Entry, GeneratorView, Number, Progress, State, HEAD_BYTES, MOST_GENERATORS, PAIR_BYTES,
 };
@@ -120,6 +121,8 @@ pub trait Implementation: Clone {
     fn generator(&self, generator: u8) -> Given<Result<GeneratorView, Number>>;
     fn masked(&self, channel: u8) -> Given<Result<bool, Number>>;
     fn share(&self, channel: u8) -> Given<Result<u8, Number>>;
+    /// Writes the service page to the memory's buffer. It may be written to, so that one that is can be found.
+    fn page(&mut self, memory: &mut Memory) -> Given<Result<(), Number>>;
     /// The gains of a channel on the wire, 0 to 15.
     fn gains(&self, channel: usize) -> Answered;
     fn record(&self) -> Given<Record>;

@@ -3,6 +3,7 @@
 use crate::channel_gains::{EXPRESSION, PAN, VOLUME};
 use crate::gains::{self, Answered, Levels};
 use crate::hardest_song;
+use crate::pages::Memory;
 use crate::pitches::Call;
 use crate::record::{Given, Implementation, Items, Record, SysExBytes, IDLE};
 use paper::{
@@ -67,6 +68,10 @@ impl Implementation for Device {
 
     fn share(&self, channel: u8) -> Given<Result<u8, Number>> {
         Ok(Device::share(self, channel))
+    }
+
+    fn page(&mut self, memory: &mut Memory) -> Given<Result<(), Number>> {
+        Ok(Device::page(self, memory.buffer()))
     }
 
     fn gains(&self, channel: usize) -> Answered {

@@ -5,11 +5,12 @@ use crate::compare::{Comparison, Failure};
 use crate::plain::{Mistake, Plain, MISTAKES};
 use crate::plain_pitch::{self, PlainPitch};
 use crate::{
-    arranging_self_test, gains_self_test, hardest_song_self_test, library, pitches, reference,
+    arranging_self_test, gains_self_test, hardest_song_self_test, library, pages_self_test,
+    pitches, reference,
 };
 use random::Random;
 
-/// Every wrong variant must be found within so many events.
+/// Every wrong variant must be found within so many events, without a look at pages: those have a self-test of their own.
 const WITHIN: u64 = 1_000_000;
 
 /// Mistakes that both sides make alike: the comparison cannot see them, the claims must.
@@ -35,6 +36,7 @@ pub fn run(seed: u64) -> Vec<String> {
         start_a: reference::start,
         start_b: |polyphony, id| Plain::start(None, polyphony, id),
         slip: None,
+        pages: true,
     };
     if let (_, Some(failure)) = right.run(seed, WITHIN) {
         complaints.push(format!("no mistake at all: {failure}"));
@@ -55,6 +57,7 @@ pub fn run(seed: u64) -> Vec<String> {
         let name = format!("bound with {slip:?}");
         complaints.extend(expect(&name, "ticket 14", wrong_book(slip, seed)));
     }
+    complaints.extend(pages_self_test::run(seed));
     complaints.extend(wrong_pitches(seed));
     complaints.extend(wrong_entries(seed));
     complaints.extend(gains_self_test::run(seed));
@@ -108,6 +111,7 @@ fn one_side(mistake: Mistake, seed: u64) -> Option<Failure> {
         start_a: reference::start,
         start_b: |polyphony, id| Plain::start(Some(mistake), polyphony, id),
         slip: None,
+        pages: false,
     };
     comparison.run(seed, WITHIN).1
 }
@@ -117,6 +121,7 @@ fn both_sides(mistake: Mistake, seed: u64) -> Option<Failure> {
         start_a: |polyphony, id| Plain::start(Some(mistake), polyphony, id),
         start_b: |polyphony, id| Plain::start(Some(mistake), polyphony, id),
         slip: None,
+        pages: false,
     };
     comparison.run(seed, WITHIN).1
 }
@@ -126,6 +131,7 @@ fn wrong_book(slip: Slip, seed: u64) -> Option<Failure> {
         start_a: reference::start,
         start_b: reference::start,
         slip: Some(slip),
+        pages: false,
     };
     comparison.run(seed, WITHIN).1
 }

@@ -17,8 +17,8 @@ const REPORTS: [&str; 3] = [
     "report of a releasing one",
 ];
 
-/// Document 01's numbers, each one place before its own, and those of pitches, gains, songs and logs behind them.
-const NUMBERS: [(Number, &str); 20] = [
+/// Document 01's numbers, each one place before its own, and those of pitches, gains, songs, logs and pages behind them.
+const NUMBERS: [(Number, &str); 21] = [
     (Number::PolyphonyOutOfRange, "P not 1 to 64"),
     (Number::IdOutOfRange, "ID above 126"),
     (Number::StrayData, "stray data byte"),
@@ -39,6 +39,7 @@ const NUMBERS: [(Number, &str); 20] = [
     (Number::LogOtherForm, "log line of another form"),
     (Number::BadOrder, "order not of all channels"),
     (Number::LogSpoilt, "log spoilt"),
+    (Number::PageTooShort, "no room for a page"),
 ];
 
 /// A place for each number, the highest included; those that nobody has stay 0.
@@ -51,7 +52,7 @@ pub struct Tally {
     reports: [u64; 3],
     /// Numbers that starts, bytes and reports answered.
     numbers: [u64; PLACES],
-    /// Numbers that queries, pitches, gains, songs and logs gave, apart: 1 and 12 have both.
+    /// Numbers that queries, pitches, gains, songs, logs and pages gave, apart: 1 and 12 have both.
     queries: [u64; PLACES],
 }
 
@@ -87,7 +88,7 @@ impl Tally {
         self.queries[number as usize] += 1;
     }
 
-    /// So many pitches, gains, songs or logs were refused, by this number.
+    /// So many pitches, gains, songs, logs or pages were refused, by this number.
     pub fn refused(&mut self, number: Number, count: u64) {
         self.queries[number as usize] += count;
     }
@@ -100,7 +101,7 @@ impl Tally {
             .collect()
     }
 
-    /// Each kind and number with its count. Number 14 comes of queries alone, 21 of pitches, 24 of gains, 25 of songs, 15 to 17 of logs, 12 of queries
+    /// Each kind and number with its count. Number 14 comes of queries alone, 21 of pitches, 24 of gains, 25 of songs, 15 to 17 of logs, 18 of pages, 12 of queries
     /// as well, 1 of songs as well.
     fn rows(&self) -> impl Iterator<Item = (String, u64)> + '_ {
         let row = |(number, words): (Number, &str), counts: &[u64; PLACES]| {
@@ -116,7 +117,7 @@ impl Tally {
         let queries = [12, 14].map(|number| query(row(NUMBERS[number - 1], &self.queries)));
         let song = |(name, count)| (format!("{name}, song"), count);
         let songs = [song(row(NUMBERS[0], &self.queries))];
-        let others = [14, 15, 16, 17, 18, 19].map(|at| row(NUMBERS[at], &self.queries));
+        let others = [14, 15, 16, 17, 18, 19, 20].map(|at| row(NUMBERS[at], &self.queries));
         kinds
             .chain(numbers)
             .chain(queries)

@@ -1,4 +1,4 @@
-//! What a call answers: the paper's *note*, *done*, *none*, or one of its numbers 1 to 14; and the numbers of document 02's tickets 1, 7, 13 and 14.
+//! What a call answers: the paper's *note*, *done*, *none*, or one of its numbers 1 to 14; and the numbers of document 02's tickets 1, 2, 7, 13 and 14.
 
 /// "What the generator was" before a note took it.
 #[derive(Clone, Copy, Debug, PartialEq, Eq)]
@@ -8,7 +8,7 @@ pub enum Was {
     Stolen,
 }
 
-/// The table "Numbers and what they leave", and the numbers of a log that yields no message, of a refused pitch, of refused gains and of a refused song.
+/// The table "Numbers and what they leave", and the numbers of a log that yields no message, of a page that has no room, of a refused pitch, of refused gains and of a refused song.
 #[derive(Clone, Copy, Debug, PartialEq, Eq)]
 #[repr(u8)]
 pub enum Number {
@@ -29,6 +29,7 @@ pub enum Number {
     LogOtherForm = 15,
     BadOrder = 16,
     LogSpoilt = 17,
+    PageTooShort = 18,
     PitchOutOfRange = 21,
     LevelOutOfRange = 24,
     SongTooLong = 25,

@@ -232,7 +232,7 @@ fn wire(channel: u8) -> Result<u8, Number> {
     }
 }
 
-/// What ticket 1 counts.
+/// What tickets 1 and 2 count.
 impl Device {
     /// How many generators of a channel on the wire are held or sustained.
     pub(crate) fn busy_count(&self, channel: u8) -> u8 {

@@ -1,5 +1,6 @@
-//! Document 01, "The note allocator of a scalable polyphony module", and tickets 1, 7, 13 and 14 of document 02, the MIP
-//! message from a song's log, the pitch of a note, the gains of a channel and the hardest song, written by hand in plain Rust.
+//! Document 01, "The note allocator of a scalable polyphony module", and tickets 1, 2, 7, 13 and 14 of document 02, the MIP
+//! message from a song's log, the service page, the pitch of a note, the gains of a channel and the hardest song, written by
+//! hand in plain Rust.
 //!
 //! This is a second implementation, made from the papers alone. It serves as the other side of the
 //! differential test and as the baseline of the benchmark, so it is written as for a small sound
@@ -16,6 +17,7 @@ mod distance;
 mod drums;
 mod gains;
 mod generators;
+mod page;
 mod parser;
 mod pitch;
 mod song;
@@ -28,6 +30,7 @@ pub use device::Device;
 pub use distance::Distance;
 pub use gains::{float_gains, gains, Gain, Gains, WEIGHTS};
 pub use generators::{GeneratorView, State, MOST_GENERATORS};
+pub use page::PAGE_BYTES;
 pub use parser::{Parser, Progress, SysEx, HEAD_BYTES, PAIR_BYTES};
 pub use pitch::{pitch, Pitch};
 pub use song::{most_thefts, write_song, LONGEST_SONG};

@@ -1,4 +1,4 @@
-//! The proved library through its C header, `include/muntinorris.h`: the same structures, the same fourteen calls.
+//! The proved library through its C header, `include/muntinorris.h`: the same structures, the same fifteen calls.
 //!
 //! The only unsafe code is here. The header wants a record that a start made; on any other bytes a call "still returns, and
 //! touches no memory but the record", so that nothing here can go wrong for Rust.
@@ -222,6 +222,7 @@ extern "C" {
     fn muntinorris_generator(device: *const Device, generator: u8) -> GeneratorAnswer;
     fn muntinorris_mask(device: *const Device, channel: u8) -> MaskAnswer;
     fn muntinorris_share(device: *const Device, channel: u8) -> ShareAnswer;
+    fn muntinorris_page(device: *const Device, page: *mut u8, length: usize) -> u8;
     fn muntinorris_pitch(key: u8, sensitivity: u8, bend: u16) -> PitchAnswer;
     fn muntinorris_gains(expression: u8, volume: u8, pan: u8) -> GainsAnswer;
     fn muntinorris_channel_gains(channel: *const Channel) -> GainsAnswer;
@@ -329,6 +330,12 @@ impl Device {
         unsafe { std::mem::transmute(bytes) }
     }
 
+    /// The record's bytes.
+    pub fn bytes(&self) -> [u8; RECORD_BYTES] {
+        // SAFETY: the record is made of bytes alone, without padding.
+        unsafe { std::mem::transmute(*self) }
+    }
+
     /// Makes this memory the record of a fresh device.
     pub fn start(&mut self, polyphony: u8, id: u8) -> Answer {
         // SAFETY: the pointer is to a whole record, and this borrow is the only one.
@@ -360,6 +367,21 @@ impl Device {
     pub fn share(&self, channel: u8) -> ShareAnswer {
         // SAFETY: as for `generator`.
         unsafe { muntinorris_share(self, channel) }
+    }
+
+    /// The service page, written to the front of the buffer; its number. The record is lent for writing, which the call does not
+    /// do, so that a caller can look whether it did.
+    #[inline]
+    pub fn page(&mut self, buffer: &mut [u8]) -> u8 {
+        // SAFETY: the pointers are to a whole record and to as many bytes as the length says, and these borrows are the only ones.
+        unsafe { muntinorris_page(self, buffer.as_mut_ptr(), buffer.len()) }
+    }
+
+    /// The same with no buffer: "with length 0 the pointer to bytes is not looked at", whatever it is.
+    pub fn page_nowhere(&mut self, address: usize) -> u8 {
+        let nowhere = std::ptr::without_provenance_mut(address);
+        // SAFETY: as for `page`; of length 0 nothing is read or written.
+        unsafe { muntinorris_page(self, nowhere, 0) }
     }
 
     /// The gains of a channel on the wire, 0 to 15.
