@@ -1,13 +1,16 @@
 // The service page (document 02, ticket 2): the state of a device on 17 lines, written into a lent buffer. By value but for the buffer, for every value of the record.
 // Assumes nothing.
 ghost use mathlib.Core.Path.{_≡_};
-ghost use Prim.Native.Nat.{_+_, _*_, _≤_, _<_};
-ghost use lib.ListN.{length, getD};
-ghost use lib.Seq.{sets};
+ghost use Prim.Native.Nat.{_+_, _≤_};
+ghost use mathlib.Core.Bool.{_&&_};
+ghost use mathlib.Core.List.{_++_};
+ghost use lib.Dec.{ltb};
+ghost use lib.ListN.{length, getD, take, drop};
 ghost use Rattle.loops.specs.Passes.{upTo};
 ghost use Rattle.table.specs.Table.{entriesOf};
+ghost use Rattle.generators.specs.Generators.{generator, isBusy};
 ghost use Rattle.choice.specs.Choice.{busyCount};
-ghost use Rattle.service.specs.Page.{inTwo, inThree, standingFrom, placeField, valueField, shareField, mark, head, row, rowsTo, pageAfter, pageAnswer};
+ghost use Rattle.service.specs.Page.{inTwo, inThree, standingFrom, placeField, valueField, shareField, mark, row, rowsTo, pageAfter, pageAnswer};
 use device::Device;
 use generators::Generators;
 use shares::Share;
@@ -106,6 +109,13 @@ fn mark_of(s: Share) -> u8
     }
 }
 
+// Whether a generator counts: it is busy, on a channel that has a place among the counts.
+fn is_counted(state: u8, channel: u8) -> bool
+    ensures { λ r. ⌜ r ≡ isBusy (generator state 0 0) && ltb channel 17 ⌝ }
+{
+    generators::is_busy(state) & (channel < 17)
+}
+
 // How many generators are busy on each channel from 0, which has none, to 16: all channels in one pass.
 fn busy_counts(s: Generators) -> [u8; 17]
     ensures { λ r. ⌜ r ≡ upTo (busyCount s) 17 ⌝ }
@@ -115,9 +125,10 @@ fn busy_counts(s: Generators) -> [u8; 17]
     let mut out = [0u8; 17];
     let mut g: usize = 0;
     while g < 64 {
-        let c = channels[g] as usize;
-        if generators::is_busy(states[g]) & (c < 17) {
-            out[c] = out[c] + 1;
+        let c = channels[g];
+        if is_counted(states[g], c) {
+            let at = c as usize;
+            out[at] = out[at] + 1;
         }
         g += 1;
     }
@@ -164,7 +175,7 @@ fn line(t: Table, p: u8, c: u8, busy: u8) -> [u8; 19]
 // A line at a place of the page that has room for it.
 fn put(page: &mut [u8], at: usize, line: [u8; 19])
     requires { ⌜ at + 19 ≤ length (now page) ⌝ }
-    ensures { λ r. ⌜ now (page .exit) ≡ sets (now (page .entry)) at line ⌝ }
+    ensures { λ r. ⌜ now (page .exit) ≡ take at (now (page .entry)) ++ line ++ drop (at + 19) (now (page .entry)) ⌝ }
 {
     let mut i: usize = 0;
     while i < 19 {
@@ -176,12 +187,13 @@ fn put(page: &mut [u8], at: usize, line: [u8; 19])
 // The lines of the sixteen channels, behind the head.
 fn put_rows(page: &mut [u8], t: Table, p: u8, busy: [u8; 17])
     requires { ⌜ 323 ≤ length (now page) ⌝ }
-    ensures { λ r. ⌜ now (page .exit) ≡ sets (now (page .entry)) 19 (rowsTo (entriesOf t) p (λ c. getD busy c 0) 16) ⌝ }
+    ensures { λ r. ⌜ now (page .exit) ≡ take 19 (now (page .entry)) ++ rowsTo (entriesOf t) p (λ c. getD busy c 0) 16 ++ drop 323 (now (page .entry)) ⌝ }
 {
-    let mut c: usize = 1;
-    while c <= 16 {
+    let mut n: usize = 0;
+    while n < 16 {
+        let c = n + 1;
         put(page, 19 * c, line(t, p, c as u8, busy[c]));
-        c += 1;
+        n = c;
     }
 }
 
