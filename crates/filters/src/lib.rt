@@ -94,7 +94,8 @@ fn write_out(program: Program, page: &[u8], used: usize) -> bool {
 
 // An input whose start was refused is over.
 fn is_over(l: Lister) -> bool {
-    listed::is_refused(l.awaits)
+    let awaits = l.awaits;
+    listed::is_refused(awaits)
 }
 
 // Writes, and keeps this; after that there may be no more to read.
