@@ -37,9 +37,13 @@ ended-started : (o : Output) → ended (startLister o) ≡ startLister o
 unfolding ended startLister afterAll
 ended-started o = rw (none-missing (o .answer))
 
+both-missing : ended newLister ≡ startLister (started 0 0)
+unfolding ended newLister afterAll after
+both-missing = refl
+
 pub missing-p : paged [] ≡ paged (0 ∷ 0 ∷ [])
-unfolding paged newLister afterAll after ended
-missing-p = ap answerText (sym (ended-started (started 0 0)))
+unfolding paged newLister afterAll after
+missing-p = ap answerText (both-missing ∙ sym (ended-started (started 0 0)))
 
 pub missing-id : (p : ℕ) → paged (p ∷ []) ≡ paged (p ∷ 0 ∷ [])
 unfolding paged newLister afterAll after ended

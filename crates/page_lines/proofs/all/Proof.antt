@@ -11,7 +11,7 @@ all-requires : tie.Need-all-requires
 all-requires c κs = search needs
 
 returns : tie.Need-returns
-returns c = c .before .before .all .ensures .0 .kept
+returns c = search needs
 
 pub all-spec : {M : Type 1} → statement M
 all-spec = tie.close (tie.spec slice-aggregate-all all-requires returns)
