@@ -1,3 +1,4 @@
 pub mod Walk
 pub mod Count
 pub mod Lines
+pub mod Witness

@@ -27,15 +27,22 @@ abbrev joined : List ℕ → List ℕ → List ℕ → List ℕ → ℕ → List
 joined c p v s m b =
     getD c 0 0 ∷ getD c 1 0 ∷ 32 ∷ getD p 0 0 ∷ getD p 1 0 ∷ 32 ∷ getD v 0 0 ∷ getD v 1 0 ∷ getD v 2 0 ∷ 32 ∷ getD s 0 0 ∷ getD s 1 0 ∷ getD s 2 0 ∷ 32 ∷ m ∷ 32 ∷ getD b 0 0 ∷ getD b 1 0 ∷ 10 ∷ []
 
-pub from-fields : (c : ℕ) (at : Standing) (s : Share) (busy : ℕ) → joined (inTwo c) (placeField at) (valueField at) (shareField s) (mark s) (inTwo busy) ≡ line c at s busy
-unfolding line inTwo inThree
-from-fields c (Listed k v) Masked busy = refl
-from-fields c (Listed k v) (Units n) busy = refl
-from-fields c Unlisted Masked busy = refl
-from-fields c Unlisted (Units n) busy = refl
+module _ (n : ℕ) (at : Standing) (share : Share) (busy : ℕ) where
+  joined-line : joined (inTwo n) (placeField at) (valueField at) (shareField share) (mark share) (inTwo busy) ≡ line n at share busy
+  unfolding line inTwo inThree
+  joined-line = go at share
+    where
+      go : (x : Standing) (y : Share) → joined (inTwo n) (placeField x) (valueField x) (shareField y) (mark y) (inTwo busy) ≡ line n x y busy
+      go (Listed k v) Masked = refl
+      go (Listed k v) (Units u) = refl
+      go Unlisted Masked = refl
+      go Unlisted (Units u) = refl
+
+  pub from-fields : (c p v s b : List ℕ) (m : ℕ) → c ≡ inTwo n → p ≡ placeField at → v ≡ valueField at → s ≡ shareField share → m ≡ mark share → b ≡ inTwo busy → joined c p v s m b ≡ line n at share busy
+  from-fields c p v s b m ec ep ev es em eb = rw (ec, ep, ev, es, em, eb) joined-line
 
 pub line-length : (c : ℕ) (at : Standing) (s : Share) (busy : ℕ) → length (line c at s busy) ≡ 19
-line-length c at s busy = ap length (sym (from-fields c at s busy))
+line-length c at s busy = ap length (sym (joined-line c at s busy))
 
 module _ (t : List Entry) (p : ℕ) (busy : ℕ → ℕ) where
   pub row-length : (c : ℕ) → length (row t p busy c) ≡ 19
@@ -96,10 +103,18 @@ one-more n h = omega arith
 
 -- ---- the whole buffer
 
-rows-same : (t : List Entry) (p : ℕ) (f g : ℕ → ℕ) (n : ℕ) → ((c : ℕ) → c ≤ n → f c ≡ g c) → rowsTo t p f n ≡ rowsTo t p g n
+pub rows-same : (t : List Entry) (p : ℕ) (f g : ℕ → ℕ) (n : ℕ) → ((c : ℕ) → c ≤ n → f c ≡ g c) → rowsTo t p f n ≡ rowsTo t p g n
 unfolding rowsTo row
 rows-same t p f g zero h = refl
 rows-same t p f g (suc n) h = rw (rows-same t p f g n (λ c k. h c (omega arith)), h (suc n) (omega arith)) refl
+
+-- "323 bytes in all", whatever the record
+pub page-length : (d : Device) → length (pageText d) ≡ 323
+unfolding pageText pageOf head
+page-length d =
+    let t = entriesOf (d .instrument .table) in
+    let rows = rowsTo t (d .instrument .polyphony) (busyCount (d .instrument .generators)) 16 in
+    length-append head rows ∙ rw (rows-length t (d .instrument .polyphony) (busyCount (d .instrument .generators)) 16) refl
 
 module _ (d : Device) (old : List ℕ) where
   -- there is no room for the page

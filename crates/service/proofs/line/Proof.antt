@@ -1,6 +1,6 @@
 -- `service::line` meets its contract: its bytes are those of the fields, one behind the other.
 -- Assumes nothing.
-use mathlib.Core.Path.{_∙_}
+use mathlib.Core.Path.{refl, _∙_}
 use borrow.Author.Needs.{needs}
 use Rattle.shares.specs.Shares.{shareOf}
 use Rattle.service.specs.Page.{row}
@@ -74,7 +74,13 @@ returns c =
     let b = c .before .before .before .before .before in
     let at = b .before .before .standing-of in
     let s = b .before .share-of in
-    rw (b .two .ensures, c .before .before .before .before .place-field .ensures, c .before .before .before .value-field .ensures, c .before .before .share-field .ensures, c .before .mark-of .ensures, c .two2 .ensures, at .ensures, s .ensures) (from-fields _ _ _ _)
+    let a = b .before .before .before .args in
+    let place = c .before .before .before .before .place-field in
+    let value = c .before .before .before .value-field in
+    let share = c .before .before .share-field in
+    let mark = c .before .mark-of in
+    from-fields (a .c) (at .result) (s .result) (a .busy) (b .two .result) (place .result) (value .result) (share .result) (c .two2 .result) (mark .result) (b .two .ensures) (place .ensures) (value .ensures) (share .ensures) (mark .ensures) (c .two2 .ensures)
+    ∙ rw (at .ensures, s .ensures) refl
 
 pub line-spec : {M : Type 1} → statement M
 line-spec =

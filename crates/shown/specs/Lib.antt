@@ -1,0 +1,3 @@
+-- What the service page shows.
+-- Assumes nothing.
+pub mod Shown
