@@ -1,7 +1,7 @@
 -- 323 bytes are room for what is answered: the page has so many, and the line of a number at most four.
 -- Assumes nothing.
 use Prim.Native.Nat.{ℕ, _≤_, _<_}
-use mathlib.Core.Path.{_≡_, _∙_}
+use mathlib.Core.Path.{_≡_}
 use mathlib.Core.List.{List, [], _∷_}
 use native.Mathlib.Omega.{arith}
 use borrow.Author.Tests.{le-ltb}
@@ -10,12 +10,10 @@ use lib.Seq.{take-at}
 use Rattle.text.specs.Text.{Put, decimal}
 use Rattle.text.proofs.Joined.{whole}
 use Rattle.fields.proofs.Written.{decimal-length}
-use Rattle.table.specs.Table.{entriesOf}
-use Rattle.choice.specs.Choice.{busyCount}
 use Rattle.device.specs.declared.Device.{Device}
 use Rattle.service.specs.declared.PageAnswer.the-variants.{Written, TooShort}
-use Rattle.service.specs.Page.{head, rowsTo, pageOf, pageText, pageAfter, pageAnswer}
-use Rattle.service.proofs.Lines.{rows-length}
+use Rattle.service.specs.Page.{pageText, pageAfter, pageAnswer}
+use Rattle.service.proofs.Lines.{page-length}
 use Rattle.page_lines.specs.PageLines.{numberLine}
 
 number-length : (n : ℕ) → n < 256 → length (numberLine n) ≤ 4
@@ -32,13 +30,6 @@ line-whole n b used {p} {q} put h =
     rw (w .1) (take-at (numberLine n) _ used k)
 
 -- ---- the page
-
-page-length : (d : Device) → length (pageText d) ≡ 323
-unfolding pageText pageOf head
-page-length d =
-    let i = d .instrument in
-    let r = rows-length (entriesOf (i .table)) (i .polyphony) (busyCount (i .generators)) 16 in
-    length-append head (rowsTo (entriesOf (i .table)) (i .polyphony) (busyCount (i .generators)) 16) ∙ omega arith
 
 pub page-written : (d : Device) (p q : List ℕ) → 323 ≤ length p → q ≡ pageAfter d p → take 323 q ≡ pageText d
 unfolding pageAfter
