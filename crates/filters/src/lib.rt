@@ -1,12 +1,11 @@
 // The programs that read standard input and write standard output, each as a function that answers its exit status. One loop reads for all of them, an input of any
-// length, and what is known is written before more is waited for; the answers to requests of songs, and of a log, go to standard error. What the bytes answer is in crates `listed`, `pitch_lines`, `song_lines` and `log_lines`. Assumes the contracts of the C
+// length, and what is known is written before more is waited for; the answers to requests of songs, and of a log, go to standard error. What the bytes answer is in crates `listed`, `pitch_lines`, `song_lines`, `log_lines` and `page_lines`. Assumes the contracts of the C
 // library's read and write, and nothing else.
 ghost use Prim.Native.Nat.{_≤_};
 use arranging::Written;
 use console::Input;
 use console::Output;
 use fields::Line;
-use listed::Awaits;
 use listed::Lister;
 use log_lines::Reading;
 use song::SongAnswer;
@@ -17,6 +16,7 @@ enum Program {
     Pitches,
     HardestSong,
     Arrange,
+    Page,
 }
 
 // What is kept from read to read: which program it is, and what each of them keeps.
@@ -75,6 +75,9 @@ fn tell(program: Program, what: &[u8]) -> bool {
         Program::Arrange => {
             console::fail(b"arrange");
         }
+        Program::Page => {
+            console::fail(b"page");
+        }
     }
     console::fail(what);
     true
@@ -89,15 +92,10 @@ fn write_out(program: Program, page: &[u8], used: usize) -> bool {
     }
 }
 
-// A listing is over when its start was refused.
+// An input whose start was refused is over.
 fn is_over(l: Lister) -> bool {
     let awaits = l.awaits;
-    match awaits {
-        Awaits::Polyphony => false,
-        Awaits::Id(_) => false,
-        Awaits::Midi => false,
-        Awaits::Nothing => true,
-    }
+    listed::is_refused(awaits)
 }
 
 // Writes, and keeps this; after that there may be no more to read.
@@ -259,6 +257,33 @@ fn hear(k: Kept, page: &mut [u8], bytes: &[u8]) -> Turn {
     }
 }
 
+// The answer to an input ends the program, and a refused start is told by the status.
+fn give_page(k: Kept, page: &mut [u8]) -> Turn {
+    let lister = page_lines::end(k.lister);
+    let used = page_lines::put_answer(page, lister);
+    let failed = write_out(Program::Page, page, used);
+    Turn {
+        more: false,
+        failed: failed | is_over(lister),
+        kept: k,
+    }
+}
+
+// Nothing is written before the input's end, unless its start was refused.
+fn play(k: Kept, page: &mut [u8], bytes: &[u8]) -> Turn {
+    let lister = page_lines::all(k.lister, bytes);
+    let mut next = k;
+    next.lister = lister;
+    if is_over(lister) {
+        return give_page(next, page);
+    }
+    Turn {
+        more: true,
+        failed: false,
+        kept: next,
+    }
+}
+
 fn take(k: Kept, page: &mut [u8], bytes: &[u8]) -> Turn {
     let program = k.program;
     match program {
@@ -266,6 +291,7 @@ fn take(k: Kept, page: &mut [u8], bytes: &[u8]) -> Turn {
         Program::Pitches => pitch(k, page, bytes),
         Program::HardestSong => answer_all(k, page, bytes),
         Program::Arrange => hear(k, page, bytes),
+        Program::Page => play(k, page, bytes),
     }
 }
 
@@ -287,6 +313,7 @@ fn end(k: Kept, page: &mut [u8]) -> Turn {
         Program::Pitches => end_pitch(k, page),
         Program::HardestSong => end_songs(k, page),
         Program::Arrange => give_message(k, page),
+        Program::Page => give_page(k, page),
     }
 }
 
@@ -351,6 +378,10 @@ fn arrange_all(page: &mut [u8]) -> bool {
     read_all(begin(Program::Arrange), page)
 }
 
+fn page_all(page: &mut [u8]) -> bool {
+    read_all(begin(Program::Page), page)
+}
+
 // The exit status: 0, or 1 if the program failed.
 fn status(failed: bool) -> u32
     ensures { λ r. ⌜ r ≤ 1 ⌝ }
@@ -396,4 +427,14 @@ pub extern "C" fn arrange_status() -> u32
     let mut space = empty_page();
     let page: &mut [u8] = &mut space;
     status(arrange_all(page))
+}
+
+// That of the program that writes the service page: 1 too if the start was refused.
+#[no_mangle]
+pub extern "C" fn page_status() -> u32
+    ensures { λ r. ⌜ r ≤ 1 ⌝ }
+{
+    let mut space = empty_page();
+    let page: &mut [u8] = &mut space;
+    status(page_all(page))
 }

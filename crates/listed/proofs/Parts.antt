@@ -17,9 +17,9 @@ use Rattle.device.specs.declared.Output.{Output}
 use Rattle.device.specs.Device.{started, byteTaken}
 use Rattle.loops.specs.Cases.{if_then_else_}
 use Rattle.listed.specs.declared.Awaits.{Awaits}
-use Rattle.listed.specs.declared.Awaits.the-variants.{Polyphony, Id, Midi, Nothing}
+use Rattle.listed.specs.declared.Awaits.the-variants.{Polyphony, Id, Midi, Refused}
 use Rattle.listed.specs.declared.Lister.{Lister}
-use Rattle.listed.specs.Listing.{Lists, isRefused, startLine, midiLine, lineBy, line, after, listedBy, afterAll}
+use Rattle.listed.specs.Listing.{Lists, behindStart, isRefused, startLine, midiLine, lineBy, line, after, listedBy, afterAll}
 
 pub after-parts : (l : Lister) (xs ys : List ℕ) → afterAll l (xs ++ ys) ≡ afterAll (afterAll l xs) ys
 unfolding afterAll
@@ -51,7 +51,7 @@ module _ (l : Lister) (bs : List ℕ) (i : ℕ) where
 
 start-length : (o : Output) → length (startLine o) ≤ 128
 unfolding startLine
-start-length o = go (isRefused (o .answer))
+start-length o = go (isRefused (behindStart (o .answer)))
   where
     go : (b : Bool) → length (if b then lineOf Nowhere (o .answer) else []) ≤ 128
     go true = line-length Nowhere (o .answer)
@@ -69,7 +69,7 @@ byte-length l b = go (l .awaits)
     go Polyphony = omega arith
     go (Id p) = start-length (started p b)
     go Midi = midi-length l b
-    go Nothing = omega arith
+    go (Refused n) = omega arith
 
 pub bytes-length : (l : Lister) (bs : List ℕ) → length (listedBy l bs) ≤ 128 * length bs
 unfolding listedBy

@@ -1,26 +1,31 @@
 -- Document 01's sentences on the listing program, of what is written for an input: a missing P or ID counts as 0; a failed start prints one line and ends.
 -- Assumes nothing.
 use Prim.Native.Nat.{ℕ}
-use mathlib.Core.Path.{_≡_, refl, sym, _∙_}
-use mathlib.Core.Bool.{Bool, true, false}
+use mathlib.Core.Path.{_≡_, refl}
 use mathlib.Core.List.{List, [], _∷_, _++_, append-nil}
-use Rattle.loops.specs.Cases.{if_then_else_}
 use Rattle.lines.specs.Lines.{lineOf}
 use Rattle.lines.specs.declared.Offset.the-variants.{Nowhere}
+use Rattle.playing.specs.declared.Answer.{Answer}
+use Rattle.playing.specs.declared.Answer.the-variants as answer
 use Rattle.device.specs.declared.Output.{Output}
 use Rattle.device.specs.Device.{started}
-use Rattle.listed.specs.declared.Awaits.the-variants.{Polyphony, Id, Midi, Nothing}
+use Rattle.listed.specs.declared.Awaits.the-variants.{Refused}
 use Rattle.listed.specs.declared.Lister.{Lister}
-use Rattle.listed.specs.Listing.{heading, newLister, isRefused, startLine, startLister, missing, line, after, listedBy, afterAll, endLine, listing}
+use Rattle.listed.specs.Listing.{heading, newLister, behindStart, isRefused, startLine, startLister, missing, line, after, listedBy, afterAll, endLine, listing}
 
--- after a start the end of the input adds nothing
+-- behind a start no byte is missing
+pub none-missing : (a : Answer) → missing (behindStart a) ≡ []
+unfolding behindStart
+none-missing answer.Nothing = refl
+none-missing answer.Done = refl
+none-missing (answer.Note c k g w) = refl
+none-missing (answer.NoNote n c k) = refl
+none-missing (answer.Number n) = refl
+
+-- so the end of the input adds nothing
 end-started : (o : Output) → endLine (startLister o) ≡ []
 unfolding endLine startLister listedBy
-end-started o = go (isRefused (o .answer))
-  where
-    go : (b : Bool) → listedBy (record { awaits = if b then Nothing else Midi; at = 0; device = o .device }) (missing (if b then Nothing else Midi)) ≡ []
-    go true = refl
-    go false = refl
+end-started o = rw (none-missing (o .answer))
 
 -- "a missing P or ID counts as 0"
 pub missing-p : listing [] ≡ listing (0 ∷ 0 ∷ [])
@@ -31,8 +36,8 @@ pub missing-id : (p : ℕ) → listing (p ∷ []) ≡ listing (p ∷ 0 ∷ [])
 unfolding listing newLister listedBy afterAll line after endLine
 missing-id p = rw (append-nil (startLine (started p 0)), end-started (started p 0), append-nil (startLine (started p 0)))
 
--- where nothing more is awaited, no byte lists or changes anything
-module _ (l : Lister) (e : l .awaits ≡ Nothing) where
+-- where the start was refused, no byte lists or changes anything
+module _ (l : Lister) (n : ℕ) (e : l .awaits ≡ Refused n) where
   no-line : (b : ℕ) → line l b ≡ []
   unfolding line
   no-line b = rw e
@@ -46,22 +51,22 @@ module _ (l : Lister) (e : l .awaits ≡ Nothing) where
   nothing-listed [] = refl
   nothing-listed (b ∷ bs) = rw (no-line b, no-change b) (nothing-listed bs)
 
-  nothing-changed : (bs : List ℕ) → afterAll l bs ≡ l
+  pub nothing-changed : (bs : List ℕ) → afterAll l bs ≡ l
   unfolding afterAll
   nothing-changed [] = refl
   nothing-changed (b ∷ bs) = rw (no-change b) (nothing-changed bs)
 
-stopped : (o : Output) → isRefused (o .answer) ≡ true → startLister o .awaits ≡ Nothing
-unfolding startLister
-stopped o e = rw e
+pub stopped : (o : Output) (n : ℕ) → o .answer ≡ answer.Number n → startLister o .awaits ≡ Refused n
+unfolding startLister behindStart
+stopped o n e = rw e
 
-refused-line : (o : Output) → isRefused (o .answer) ≡ true → startLine o ≡ lineOf Nowhere (o .answer)
-unfolding startLine
-refused-line o e = rw e
+refused-line : (o : Output) (n : ℕ) → o .answer ≡ answer.Number n → startLine o ≡ lineOf Nowhere (answer.Number n)
+unfolding startLine behindStart isRefused
+refused-line o n e = rw e
 
 -- "A failed start then prints one line, its number with `-` in every other field, and ends.", whatever comes behind it
-pub failed-start : (p id : ℕ) (bs : List ℕ) → isRefused (started p id .answer) ≡ true → listing (p ∷ id ∷ bs) ≡ heading ++ lineOf Nowhere (started p id .answer)
+pub failed-start : (p id n : ℕ) (bs : List ℕ) → started p id .answer ≡ answer.Number n → listing (p ∷ id ∷ bs) ≡ heading ++ lineOf Nowhere (answer.Number n)
 unfolding listing newLister listedBy afterAll line after
-failed-start p id bs e =
+failed-start p id n bs e =
     let o = started p id in
-    rw (nothing-listed (startLister o) (stopped o e) bs, nothing-changed (startLister o) (stopped o e) bs, append-nil (startLine o), end-started o, append-nil (startLine o), refused-line o e)
+    rw (nothing-listed (startLister o) n (stopped o n e) bs, nothing-changed (startLister o) n (stopped o n e) bs, append-nil (startLine o), end-started o, append-nil (startLine o), refused-line o n e)

@@ -13,7 +13,7 @@ use Rattle.playing.specs.declared.Answer.the-variants as answer
 use Rattle.device.specs.declared.Output.{Output}
 use Rattle.device.specs.Device.{freshDevice, started, byteTaken}
 use Rattle.listed.specs.declared.Awaits.{Awaits}
-use Rattle.listed.specs.declared.Awaits.the-variants.{Polyphony, Id, Midi, Nothing}
+use Rattle.listed.specs.declared.Awaits.the-variants.{Polyphony, Id, Midi, Refused}
 use Rattle.listed.specs.declared.Lister.{Lister}
 
 -- a text listed at a place of a page: what is kept, and the place and the page behind it
@@ -35,20 +35,26 @@ newLister = record { awaits = Polyphony; at = 0; device = started 1 0 .device }
 unfoldable pub nextOffset : ℕ → ℕ
 nextOffset n = if ltb n 18446744073709551615 then n + 1 else n
 
--- a start answers a number or *done*
-unfoldable pub isRefused : Answer → Bool
-isRefused answer.Nothing = false
-isRefused answer.Done = false
-isRefused (answer.Note c k g w) = false
-isRefused (answer.NoNote n c k) = false
-isRefused (answer.Number n) = true
+-- what comes behind a start: it answers a number or *done*
+unfoldable pub behindStart : Answer → Awaits
+behindStart answer.Nothing = Midi
+behindStart answer.Done = Midi
+behindStart (answer.Note c k g w) = Midi
+behindStart (answer.NoNote n c k) = Midi
+behindStart (answer.Number n) = Refused n
+
+unfoldable pub isRefused : Awaits → Bool
+isRefused Polyphony = false
+isRefused (Id p) = false
+isRefused Midi = false
+isRefused (Refused n) = true
 
 -- "A failed start then prints one line, its number with `-` in every other field, and ends."
 unfoldable pub startLine : Output → List ℕ
-startLine o = if isRefused (o .answer) then lineOf Nowhere (o .answer) else []
+startLine o = if isRefused (behindStart (o .answer)) then lineOf Nowhere (o .answer) else []
 
 unfoldable pub startLister : Output → Lister
-startLister o = record { awaits = if isRefused (o .answer) then Nothing else Midi; at = 0; device = o .device }
+startLister o = record { awaits = behindStart (o .answer); at = 0; device = o .device }
 
 -- a MIDI byte: "offset of the byte that completed it (0 for the first MIDI byte)"
 unfoldable pub midiLine : Lister → ℕ → List ℕ
@@ -62,7 +68,7 @@ abbrev pub lineBy : Awaits → Lister → ℕ → List ℕ
 lineBy Polyphony l b = []
 lineBy (Id p) l b = startLine (started p b)
 lineBy Midi l b = midiLine l b
-lineBy Nothing l b = []
+lineBy (Refused n) l b = []
 
 unfoldable pub line : Lister → ℕ → List ℕ
 line l b = lineBy (l .awaits) l b
@@ -71,7 +77,7 @@ abbrev pub afterBy : Awaits → Lister → ℕ → Lister
 afterBy Polyphony l b = record { awaits = Id b; at = l .at; device = l .device }
 afterBy (Id p) l b = startLister (started p b)
 afterBy Midi l b = afterMidi l b
-afterBy Nothing l b = l
+afterBy (Refused n) l b = l
 
 unfoldable pub after : Lister → ℕ → Lister
 after l b = afterBy (l .awaits) l b
@@ -90,7 +96,7 @@ abbrev pub missing : Awaits → List ℕ
 missing Polyphony = 0 ∷ 0 ∷ []
 missing (Id p) = 0 ∷ []
 missing Midi = []
-missing Nothing = []
+missing (Refused n) = []
 
 unfoldable pub endLine : Lister → List ℕ
 endLine l = listedBy l (missing (l .awaits))

@@ -5,7 +5,7 @@ ghost use mathlib.Core.Path.{_≡_};
 ghost use lib.ListN.{length, take};
 ghost use Rattle.text.specs.Text.{Put};
 ghost use Rattle.device.specs.Device.{started};
-ghost use Rattle.listed.specs.Listing.{Lists, heading, newLister, nextOffset, isRefused, startLine, startLister, midiLine, afterMidi, line, after, listedBy, afterAll, endLine};
+ghost use Rattle.listed.specs.Listing.{Lists, heading, newLister, nextOffset, behindStart, isRefused, startLine, startLister, midiLine, afterMidi, line, after, listedBy, afterAll, endLine};
 use device::Device;
 use lines::Offset;
 use playing::Answer;
@@ -18,8 +18,8 @@ pub enum Awaits {
     Id(u8),
     // A MIDI byte.
     Midi,
-    // None: the start was refused, and the listing is complete.
-    Nothing,
+    // None that counts: the start was refused with this number, and the listing is complete.
+    Refused(u8),
 }
 
 // What is kept from byte to byte: which byte comes next, the offset of the next MIDI byte, and the device.
@@ -64,15 +64,28 @@ fn next(at: u64) -> u64
     at
 }
 
-fn is_refused(a: Answer) -> bool
+// What comes behind a start that is answered so: a start answers a number or *done*.
+fn behind_start(a: Answer) -> Awaits
+    ensures { λ r. ⌜ r ≡ behindStart a ⌝ }
+{
+    match a {
+        Answer::Nothing => Awaits::Midi,
+        Answer::Done => Awaits::Midi,
+        Answer::Note(_, _, _, _) => Awaits::Midi,
+        Answer::NoNote(_, _, _) => Awaits::Midi,
+        Answer::Number(n) => Awaits::Refused(n),
+    }
+}
+
+// Whether the start was refused, so that no byte counts any more.
+pub fn is_refused(a: Awaits) -> bool
     ensures { λ r. ⌜ r ≡ isRefused a ⌝ }
 {
     match a {
-        Answer::Nothing => false,
-        Answer::Done => false,
-        Answer::Note(_, _, _, _) => false,
-        Answer::NoNote(_, _, _) => false,
-        Answer::Number(_) => true,
+        Awaits::Polyphony => false,
+        Awaits::Id(_) => false,
+        Awaits::Midi => false,
+        Awaits::Refused(_) => true,
     }
 }
 
@@ -83,20 +96,18 @@ fn list_start(page: &mut [u8], used: &mut usize, polyphony: u8, id: u8) -> Liste
     let o = device::start(polyphony, id);
     let answer = o.answer;
     let d = o.device;
-    if is_refused(answer) {
-        let at = *used;
-        *used = lines::put_line(page, at, Offset::Nowhere, answer);
-        return Lister {
-            awaits: Awaits::Nothing,
-            at: 0,
-            device: d,
-        };
-    }
-    Lister {
-        awaits: Awaits::Midi,
+    let awaits = behind_start(answer);
+    let l = Lister {
+        awaits: awaits,
         at: 0,
         device: d,
+    };
+    if is_refused(awaits) {
+        let at = *used;
+        *used = lines::put_line(page, at, Offset::Nowhere, answer);
+        return l;
     }
+    l
 }
 
 // A MIDI byte.
@@ -131,7 +142,7 @@ fn one(l: Lister, page: &mut [u8], used: &mut usize, b: u8) -> Lister
         }
         Awaits::Id(polyphony) => list_start(page, used, polyphony, b),
         Awaits::Midi => list_byte(l, page, used, b),
-        Awaits::Nothing => l,
+        Awaits::Refused(_) => l,
     }
 }
 
@@ -169,6 +180,6 @@ pub fn end(l: Lister, page: &mut [u8]) -> usize
             used
         }
         Awaits::Midi => 0,
-        Awaits::Nothing => 0,
+        Awaits::Refused(_) => 0,
     }
 }

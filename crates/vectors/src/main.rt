@@ -16,12 +16,15 @@
 //     L cc        the same, by the numbers of channel cc
 //     H pp nn nn nn ll ll ll  the thefts of the hardest song for polyphony pp, of n bytes in a buffer of l bytes, each in three numbers, highest first; below it the
 //                 buffer, all FF before, where it has 1 to 64 bytes. l is at most 65,538
+//     V           the service page of the device, in a buffer of 323 bytes: its 17 lines as they are
+//     V hh ll     the same in a buffer of 256 × hh + ll bytes, at most 1,024, all FF before: its number 18 on a line, or the page's 17 lines; below that, in hexadecimal with
+//                 blanks between, the bytes of the buffer that are no page's (all of them where it was refused, else those behind the 323rd), on a line, where there are 1 to 64 of them
 //     O oo ..     begins a log with this order, 1 to 64 numbers or none
 //     A bb ..     a part of the log, 1 to 64 bytes
 //     E           the end of the log so far: number, line and message, the message in hexadecimal
 //
 // A refused query answers its number only. Any other line is answered `malformed` and has no effect; an empty line has no answer. Before the first P the device
-// is one with P 1 and own ID 0, and before the first O the log is one of an order of no channels; O, A and E leave the device as it is. Assumes the contracts of the C library's read and write, and nothing else.
+// is one with P 1 and own ID 0, and before the first O the log is one of an order of no channels; O, A and E leave the device as it is, and V leaves device and log. Assumes the contracts of the C library's read and write, and nothing else.
 ghost use mathlib.Core.Bool.{not};
 ghost use lib.Dec.{T};
 ghost use lib.Ieee.{isNan};
@@ -37,6 +40,7 @@ use lines::Offset;
 use lines::put_field;
 use pitch::PitchAnswer;
 use queries::GeneratorAnswer;
+use service::PageAnswer;
 use shares::MaskAnswer;
 use shares::ShareAnswer;
 use song::SongAnswer;
@@ -407,15 +411,20 @@ fn put_song(page: &mut [u8], at: usize, a: SongAnswer) -> usize {
     }
 }
 
-// The song of n bytes in this buffer, whose bytes are shown if they are few.
+// Bytes of a buffer, shown if they are few.
+fn put_few(page: &mut [u8], at: usize, bytes: &[u8]) -> usize {
+    if (0 < bytes.len()) & (bytes.len() <= 64) {
+        let k = text::put_bytes(page, at, bytes);
+        return put(page, k, b"\n");
+    }
+    at
+}
+
+// The song of n bytes in this buffer, whose bytes are shown.
 fn put_played(page: &mut [u8], at: usize, polyphony: u8, n: usize, buffer: &mut [u8]) -> usize {
     let a = song::write_song(polyphony, n, buffer);
     let k = put_song(page, at, a);
-    if (0 < buffer.len()) & (buffer.len() <= 64) {
-        let l = text::put_bytes(page, k, buffer);
-        return put(page, l, b"\n");
-    }
-    k
+    put_few(page, k, buffer)
 }
 
 // A number in three, highest first.
@@ -444,6 +453,63 @@ fn put_song_asked(page: &mut [u8], at: usize, numbers: [u8; 64]) -> usize {
     let mut space = [0xFFu8; 65538];
     let all: &mut [u8] = &mut space;
     put_lent(page, at, numbers[0], n, length, all)
+}
+
+// A service page that stands in this buffer, and the bytes behind it.
+fn put_lines(page: &mut [u8], at: usize, buffer: &[u8]) -> usize {
+    if buffer.len() < 323 {
+        return put_malformed(page, at);
+    }
+    let k = put(page, at, &buffer[..323]);
+    put_few(page, k, &buffer[323..])
+}
+
+// The service page in this buffer.
+fn put_service(page: &mut [u8], at: usize, d: Device, buffer: &mut [u8]) -> usize {
+    let a = service::write_page(d, buffer);
+    match a {
+        PageAnswer::Written => put_lines(page, at, buffer),
+        PageAnswer::TooShort => {
+            let k = put_refused(page, at, 18);
+            put_few(page, k, buffer)
+        }
+    }
+}
+
+// The same in the first bytes of this space, as many as are asked for.
+fn put_service_lent(
+    page: &mut [u8],
+    at: usize,
+    d: Device,
+    length: usize,
+    space: &mut [u8],
+) -> usize {
+    if space.len() < length {
+        return put_malformed(page, at);
+    }
+    put_service(page, at, d, &mut space[..length])
+}
+
+fn put_service_in(page: &mut [u8], at: usize, d: Device, length: usize) -> usize {
+    let mut space = [0xFFu8; 1024];
+    let all: &mut [u8] = &mut space;
+    put_service_lent(page, at, d, length, all)
+}
+
+fn put_service_asked(
+    page: &mut [u8],
+    at: usize,
+    d: Device,
+    count: usize,
+    numbers: [u8; 64],
+) -> usize {
+    if count == 0 {
+        return put_service_in(page, at, d, 323);
+    }
+    if count == 2 {
+        return put_service_in(page, at, d, in_three(0, numbers[0], numbers[1]));
+    }
+    put_malformed(page, at)
 }
 
 // The answer to a command with one number that asks for a channel's record.
@@ -578,6 +644,9 @@ fn run_log(s: Bench, page: &mut [u8], command: u8, count: usize, numbers: [u8; 6
     }
     if (command == b'E') & (count == 0) {
         return with_used(s, put_end(page, s.used, log));
+    }
+    if command == b'V' {
+        return with_used(s, put_service_asked(page, s.used, d, count, numbers));
     }
     with_used(s, put_told(page, s.used, d, command, count, numbers[0]))
 }

@@ -1,7 +1,7 @@
--- `listed::is_refused`: by the answer's case.
+-- `listed::is_refused`: by the byte that is awaited.
 -- Assumes nothing.
-use borrow.Author.Needs.{needs}
 use Rattle.listed.specs.Listing.{isRefused}
+use borrow.Author.Needs.{needs}
 use Rattle.listed.proofs.is_refused.Statement.{statement}
 use Rattle.listed.proofs.is_refused.Tie as tie
 
@@ -16,9 +16,6 @@ enum-told-3 c = search needs
 
 enum-told-4 : tie.Need-enum-told-4
 enum-told-4 c = search needs
-
-enum-told-5 : tie.Need-enum-told-5
-enum-told-5 c = search needs
 
 returns : tie.Need-returns
 unfolding isRefused
@@ -36,21 +33,7 @@ returns-4 : tie.Need-returns-4
 unfolding isRefused
 returns-4 c = rw (c .enum-told4 .given .1)
 
-returns-5 : tie.Need-returns-5
-unfolding isRefused
-returns-5 c = rw (c .enum-told5 .given .1)
-
 pub is-refused-spec : {M : Type 1} → statement M
 is-refused-spec =
     tie.close
-    (tie.spec
-    enum-told
-    enum-told-2
-    enum-told-3
-    enum-told-4
-    enum-told-5
-    returns
-    returns-2
-    returns-3
-    returns-4
-    returns-5)
+    (tie.spec enum-told enum-told-2 enum-told-3 enum-told-4 returns returns-2 returns-3 returns-4)

@@ -10,6 +10,9 @@ use Rattle.listed.proofs.list_start.Tie as tie
 start-requires : tie.Need-start-requires
 start-requires c κs = search needs
 
+behind-start-requires : tie.Need-behind-start-requires
+behind-start-requires c κs = search needs
+
 is-refused-requires : tie.Need-is-refused-requires
 is-refused-requires c κs = search needs
 
@@ -22,20 +25,29 @@ same-length c = search needs
 returns : tie.Need-returns
 unfolding startLine startLister
 returns c =
-    let s = c .before .before .before .before .before .before .before .before .start in
     let n = c .before .before .before .before .before .before .is-refused in
+    let b = c .before .before .before .before .before .before .before .behind-start in
+    let s = c .before .before .before .before .before .before .before .before .before .start in
     let e = sym (n .ensures) ∙ c .before .before .before .before .before .if1 .taken in
-    rw (← (s .ensures), e) (record { kept = refl; put = c .before .before .put-line .ensures })
+    rw (← (s .ensures), ← (b .ensures), e) (record { kept = refl; put = c .before .before .put-line .ensures })
 
 returns-2 : tie.Need-returns-2
 unfolding startLine startLister
 returns-2 c =
-    let s = c .before .before .before .start in
     let n = c .before .is-refused in
+    let b = c .before .before .behind-start in
+    let s = c .before .before .before .before .start in
     let e = sym (n .ensures) ∙ c .if1 .left in
-    rw (← (s .ensures), e) (record { kept = refl; put = nothing-put _ _ })
+    rw (← (s .ensures), ← (b .ensures), e) (record { kept = refl; put = nothing-put _ _ })
 
 pub list-start-spec : {M : Type 1} → statement M
 list-start-spec =
     tie.close
-    (tie.spec start-requires is-refused-requires put-line-requires same-length returns returns-2)
+    (tie.spec
+    start-requires
+    behind-start-requires
+    is-refused-requires
+    put-line-requires
+    same-length
+    returns
+    returns-2)

@@ -1,0 +1,17 @@
+-- `page_lines::all`: what `listed::all` keeps, whatever page it has for its lines.
+-- Assumes nothing.
+use borrow.Author.Needs.{needs}
+use Rattle.page_lines.proofs.all.Statement.{statement}
+use Rattle.page_lines.proofs.all.Tie as tie
+
+slice-aggregate-all : tie.Need-slice-aggregate-all
+slice-aggregate-all c = search needs
+
+all-requires : tie.Need-all-requires
+all-requires c κs = search needs
+
+returns : tie.Need-returns
+returns c = search needs
+
+pub all-spec : {M : Type 1} → statement M
+all-spec = tie.close (tie.spec slice-aggregate-all all-requires returns)

@@ -1,0 +1,67 @@
+-- `page_lines::put_answer`: by what the start came to.
+-- Assumes nothing.
+use mathlib.Core.Path.{refl}
+use Rattle.page_lines.specs.PageLines.{answerText}
+use Rattle.page_lines.proofs.Room.{line-whole}
+use borrow.Author.Needs.{needs}
+use Rattle.page_lines.proofs.put_answer.Statement.{statement}
+use Rattle.page_lines.proofs.put_answer.Tie as tie
+
+enum-told : tie.Need-enum-told
+enum-told c = search needs
+
+enum-told-2 : tie.Need-enum-told-2
+enum-told-2 c = search needs
+
+enum-told-3 : tie.Need-enum-told-3
+enum-told-3 c = search needs
+
+put-page-requires : tie.Need-put-page-requires
+put-page-requires c κs = search needs
+
+enum-known-awaits : tie.Need-enum-known-awaits
+enum-known-awaits c = search needs
+
+put-refused-requires : tie.Need-put-refused-requires
+put-refused-requires c κs = search needs
+
+returns : tie.Need-returns
+unfolding answerText
+returns c = rw (c .enum-told .given .1) (λ h. refl)
+
+returns-2 : tie.Need-returns-2
+unfolding answerText
+returns-2 c = rw (c .enum-told2 .given .1) (λ h. refl)
+
+same-length : tie.Need-same-length
+same-length c = search needs
+
+returns-3 : tie.Need-returns-3
+unfolding answerText
+returns-3 c = rw (c .before .before .before .before .enum-told3 .given .1) (c .before .before .put-page .ensures)
+
+same-length-2 : tie.Need-same-length-2
+same-length-2 c = search needs
+
+returns-4 : tie.Need-returns-4
+unfolding answerText
+returns-4 c =
+    let k = c .before .before .before .before .known-told .given in
+    rw (c .before .before .before .before .before .awaits .given .1) (λ h. line-whole _ (k .0 .1) _ (c .before .before .put-refused .ensures) h)
+
+pub put-answer-spec : {M : Type 1} → statement M
+put-answer-spec =
+    tie.close
+    (tie.spec
+    enum-told
+    enum-told-2
+    enum-told-3
+    put-page-requires
+    enum-known-awaits
+    put-refused-requires
+    returns
+    returns-2
+    same-length
+    returns-3
+    same-length-2
+    returns-4)

@@ -1,0 +1,40 @@
+-- `page_lines::put_page`: where there is room the page is written, and it has 323 bytes.
+-- Assumes nothing.
+use mathlib.Core.Path.{sym, _∙_}
+use Rattle.page_lines.proofs.Room.{page-written, not-short}
+use borrow.Author.Needs.{needs}
+use Rattle.page_lines.proofs.put_page.Statement.{statement}
+use Rattle.page_lines.proofs.put_page.Tie as tie
+
+write-page-requires : tie.Need-write-page-requires
+write-page-requires c κs = search needs
+
+enum-told : tie.Need-enum-told
+enum-told c = search needs
+
+enum-told-2 : tie.Need-enum-told-2
+enum-told-2 c = search needs
+
+same-length : tie.Need-same-length
+same-length c = search needs
+
+returns : tie.Need-returns
+returns c = λ h. page-written _ _ _ h (c .before .before .before .before .write-page .ensures .1)
+
+same-length-2 : tie.Need-same-length-2
+same-length-2 c = search needs
+
+returns-2 : tie.Need-returns-2
+returns-2 c = λ h. not-short _ h (sym (c .enum-told2 .given .1) ∙ c .before .before .before .before .write-page .ensures .0)
+
+pub put-page-spec : {M : Type 1} → statement M
+put-page-spec =
+    tie.close
+    (tie.spec
+    write-page-requires
+    enum-told
+    enum-told-2
+    same-length
+    returns
+    same-length-2
+    returns-2)

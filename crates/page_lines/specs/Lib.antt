@@ -1,0 +1,3 @@
+-- The program `page`: its input, and what it answers.
+-- Assumes nothing.
+pub mod PageLines
