@@ -14,7 +14,7 @@ use Rattle.device.specs.Device.{freshDevice, isWrongP, started}
 use Rattle.service.specs.Page.{pageText}
 use Rattle.listed.specs.declared.Awaits.the-variants.{Midi, Refused}
 use Rattle.listed.specs.declared.Lister.{Lister}
-use Rattle.listed.specs.Listing.{newLister, behindStart, startLister, missing, afterMidi, after, afterAll}
+use Rattle.listed.specs.Listing.{newLister, behindStart, startLister, afterMidi, after, afterAll}
 use Rattle.listed.proofs.Parts.{after-parts}
 use Rattle.listed.proofs.Sentences.{none-missing, nothing-changed, stopped}
 use Rattle.page_lines.specs.PageLines.{partsTaken, ended, numberLine, answerText, paged, played}
@@ -37,6 +37,7 @@ ended-started : (o : Output) → ended (startLister o) ≡ startLister o
 unfolding ended startLister afterAll
 ended-started o = rw (none-missing (o .answer))
 
+-- an input of no bytes is a start with P 0 and ID 0
 both-missing : ended newLister ≡ startLister (started 0 0)
 unfolding ended newLister afterAll after
 both-missing = refl
