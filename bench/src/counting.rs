@@ -22,7 +22,9 @@ enum Target {
     Pitch,
     /// Gains at most 120.
     Gains,
-    /// Nothing, as for a page, a refused pitch or song, or a line of a log.
+    /// A page at most 10,000.
+    Page,
+    /// Nothing, as for a refused pitch, song or page, or a line of a log.
     None,
     /// The mean over a stream, a song or a log.
     Mean,
@@ -88,6 +90,7 @@ fn print_line(name: &str, calls: usize, target: Target) {
         Target::SingleByte => ("sum", "15000"),
         Target::Pitch => ("sum", "100"),
         Target::Gains => ("sum", "120"),
+        Target::Page => ("sum", "10000"),
         Target::None => ("sum", "-"),
         Target::Mean => ("mean", "-"),
     };
@@ -366,7 +369,7 @@ pub fn run_pages<S: Subject>() {
         bench_mark();
         black_box(device.page(black_box(&mut buffer)));
         bench_mark();
-        print_line(shown.name, 1, Target::None);
+        print_line(shown.name, 1, Target::Page);
     }
     let mut device = S::start(64);
     bench_mark();

@@ -34,8 +34,8 @@ pub struct Shown {
     pub heard: Vec<u8>,
 }
 
-/// A fresh device, one with every generator busy, and one of which the page has every kind of line.
-pub fn shown() -> [Shown; 3] {
+/// A fresh device, one with every generator busy, one of which the page has every kind of line, and one whose table is looked through for most channels to its end.
+pub fn shown() -> [Shown; 4] {
     let shown = |name, polyphony, heard| Shown {
         name,
         polyphony,
@@ -46,6 +46,11 @@ pub fn shown() -> [Shown; 3] {
         shown("page, fresh, P 64", 64, Vec::new()),
         shown("page, 4 notes each, P 64", 64, four_notes_each()),
         shown("page, masked, unlisted, P 24", 24, mip(listed)),
+        shown(
+            "page, 15 masked, P 64",
+            64,
+            mip((0..15).map(|channel| (channel, 100 + channel))),
+        ),
     ]
 }
 

@@ -11,7 +11,7 @@ use Rattle.lines.specs.Lines.{lineOf}
 use Rattle.playing.specs.declared.Answer.{Answer}
 use Rattle.playing.specs.declared.Answer.the-variants as answer
 use Rattle.device.specs.declared.Output.{Output}
-use Rattle.device.specs.Device.{freshDevice, started, byteTaken}
+use Rattle.device.specs.Device.{started, byteTaken}
 use Rattle.listed.specs.declared.Awaits.{Awaits}
 use Rattle.listed.specs.declared.Awaits.the-variants.{Polyphony, Id, Midi, Refused}
 use Rattle.listed.specs.declared.Lister.{Lister}

@@ -14,7 +14,7 @@ use Rattle.device.specs.Device.{freshDevice, isWrongP, started}
 use Rattle.service.specs.Page.{pageText}
 use Rattle.listed.specs.declared.Awaits.the-variants.{Midi, Refused}
 use Rattle.listed.specs.declared.Lister.{Lister}
-use Rattle.listed.specs.Listing.{newLister, behindStart, startLister, missing, afterMidi, after, afterAll}
+use Rattle.listed.specs.Listing.{newLister, behindStart, startLister, afterMidi, after, afterAll}
 use Rattle.listed.proofs.Parts.{after-parts}
 use Rattle.listed.proofs.Sentences.{none-missing, nothing-changed, stopped}
 use Rattle.page_lines.specs.PageLines.{partsTaken, ended, numberLine, answerText, paged, played}
@@ -37,6 +37,7 @@ ended-started : (o : Output) → ended (startLister o) ≡ startLister o
 unfolding ended startLister afterAll
 ended-started o = rw (none-missing (o .answer))
 
+-- an input of no bytes is a start with P 0 and ID 0
 both-missing : ended newLister ≡ startLister (started 0 0)
 unfolding ended newLister afterAll after
 both-missing = refl
@@ -70,13 +71,17 @@ refused-start p id n bs e =
     ap (λ (x : Lister). answerText (ended x)) (nothing-changed (startLister o) n (stopped o n e) bs) ∙ refused-text (startLister o) n (stopped o n e)
 
 -- number 1, "P not 1 to 64", and 2, "ID above 126"
+pub lines-written : (numberLine 1 ≡ 49 ∷ 10 ∷ []) × (numberLine 2 ≡ 50 ∷ 10 ∷ [])
+unfolding numberLine decimalWithin
+lines-written = (refl, refl)
+
 pub wrong-p : (p id : ℕ) (bs : List ℕ) → isWrongP p ≡ true → paged (p ∷ id ∷ bs) ≡ 49 ∷ 10 ∷ []
-unfolding started numberLine decimalWithin
-wrong-p p id bs e = refused-start p id 1 bs (rw e)
+unfolding started
+wrong-p p id bs e = refused-start p id 1 bs (rw e) ∙ lines-written .0
 
 pub wrong-id : (p id : ℕ) (bs : List ℕ) → isWrongP p ≡ false → 126 < id → paged (p ∷ id ∷ bs) ≡ 50 ∷ 10 ∷ []
-unfolding started numberLine decimalWithin
-wrong-id p id bs e h = refused-start p id 2 bs (rw (e, lt-ltb 126 id h))
+unfolding started
+wrong-id p id bs e h = refused-start p id 2 bs (rw (e, lt-ltb 126 id h)) ∙ lines-written .1
 
 -- ---- a good start
 

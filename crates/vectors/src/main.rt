@@ -455,7 +455,7 @@ fn put_song_asked(page: &mut [u8], at: usize, numbers: [u8; 64]) -> usize {
     put_lent(page, at, numbers[0], n, length, all)
 }
 
-// A service page that stands in this buffer, and the bytes behind it.
+// A service page that stands in this buffer, as no shorter one has it, and the bytes behind it.
 fn put_lines(page: &mut [u8], at: usize, buffer: &[u8]) -> usize {
     if buffer.len() < 323 {
         return put_malformed(page, at);

@@ -2,8 +2,7 @@
 -- Assumes nothing.
 use mathlib.Core.List.{append-nil}
 use Rattle.text.proofs.Joined.{nothing-put}
-use Rattle.device.specs.Device.{started}
-use Rattle.listed.specs.Listing.{startLine, line, listedBy, endLine}
+use Rattle.listed.specs.Listing.{line, listedBy, endLine}
 use borrow.Author.Needs.{needs}
 use Rattle.listed.proofs.end.Statement.{statement}
 use Rattle.listed.proofs.end.Tie as tie
