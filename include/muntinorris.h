@@ -6,12 +6,12 @@
  * assignment; the copy is a device, or a log, of its own.
  *
  * Calls. muntinorris_start makes the record of a device and muntinorris_log_begin that of a log, whatever the memory held before. Every other call that is lent a record wants one that
- * was made so and that only these calls have written since; on a record with other contents it still returns, and touches no memory but the record, but the answer means nothing. (A
+ * was made so and that only these calls have written since; on a record with other contents it still returns, and writes no memory but what it is lent to write, but the answer means nothing. (A
  * pitch, gains by their numbers, a song and the message of a whole log need no record; the gains of a channel mean what they say for any eleven bytes.) One record is used by one thread
  * at a time; two records never touch each other.
  *
- * A NULL or misaligned pointer, or one to less memory than the struct or the length that is lent, is the caller's error and is not tested for, and so are bytes or a record that are lent to be
- * read out of the record or the buffer that the same call writes; with length 0 the pointer to bytes is not looked at. (The record of a device is made of bytes alone, so its alignment is 1 and
+ * A NULL or misaligned pointer, or one to less memory than the struct or the length that is lent, is the caller's error and is not tested for, and so is an overlap of
+ * what is lent for reading with what the same call writes; with length 0 the pointer to bytes is not looked at. (The record of a device is made of bytes alone, so its alignment is 1 and
  * every address is aligned for it. That of a log holds a uint64_t and has its alignment: 8 on x86-64.)
  *
  * Channels are 1 to 16, as musicians count them; the wire carries channel minus 1. "Document 01" is the specification, "The note allocator of a scalable
@@ -251,16 +251,16 @@ struct muntinorris_mask_answer muntinorris_mask(const struct muntinorris_device 
 struct muntinorris_share_answer muntinorris_share(const struct muntinorris_device *d, uint8_t channel);
 
 /*
- * The service page: the state of the device as text, in the first 323 bytes of the buffer; its other bytes stay, and no 0 byte is put behind the text. 17 lines of 18 characters, ASCII, each
- * ended by byte 0AH. Under the head
+ * The service page: the state of the device as text, in the first 323 bytes of the buffer; its other bytes stay, and no 0 byte is put behind the text. It has 17 lines, each
+ * of 18 ASCII characters and a line end, 0AH. Under the head
  *
  *     CH PR VAL SHR M NT
  *
  * stand channels 1 to 16, a line each: the channel, its place in the order of the MIP table (from 1), its value there, its share, `M` if it is masked and `-` if not, and how many generators
- * are busy with it, held or sustained. Numbers are right-aligned with blanks. Place and value of a channel that the table doesn't list, and the share of a masked one, are filled with `-`; a
- * channel that is listed and masked has its place and its value.
+ * are busy with it, held or sustained. A number stands at the right of its field, behind blanks. A channel that the table doesn't list has `--` and `---` for
+ * place and value, and one that is masked `---` for its share; a channel that is listed and masked has its place and its value.
  *
- * The caller owns record and buffer and lends them for the call: the record is read and not changed, and the two must not overlap. length is all that the buffer has. 0, or number 18.
+ * The caller owns record and buffer and lends them for the call: the record is read and not changed, and the two must not overlap. length is the buffer's, in bytes. 0, or number 18.
  */
 #define MUNTINORRIS_PAGE_BYTES 323
 uint8_t muntinorris_page(const struct muntinorris_device *d, uint8_t *page, size_t length);

@@ -96,7 +96,7 @@ pub struct RefusedLog {
     pub line: u64,
 }
 
-/// The bytes of a service page: 17 lines of 18 characters, each ended by 0AH.
+/// The bytes of a service page: 17 lines, each of 18 characters and a line end, 0AH.
 pub const PAGE_BYTES: usize = 323;
 
 extern "C" {

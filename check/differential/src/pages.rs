@@ -347,6 +347,9 @@ fn judge<'a>(
 
 /// The first byte in which two pages differ, in its line.
 fn first_difference(page: &[u8], other: &[u8]) -> Option<String> {
+    if page.len() != other.len() {
+        return Some(format!("{} bytes against {}", page.len(), other.len()));
+    }
     let at = page.iter().zip(other).position(|(a, b)| a != b)?;
     let line = |page: &[u8]| {
         let bytes = page.chunks(LINE_BYTES).nth(at / LINE_BYTES);

@@ -28,7 +28,7 @@ pub record Playable (p : ℕ) (s : Generators) : Type 0 where
   pub above : (g : ℕ) → p ≤ g → isIdle (at s g) ≡ true
 
 -- an idle generator isn't busy
-idle-busy : (x : Generator) → isIdle x ≡ true → isBusy x ≡ false
+pub idle-busy : (x : Generator) → isIdle x ≡ true → isBusy x ≡ false
 idle-busy x e = rw (eqb-true (x .state) 0 e)
 
 of-states : {x y : Generator} → x ≡ y → y .state ≤ 3 → x .state ≤ 3

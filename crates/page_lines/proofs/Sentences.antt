@@ -6,18 +6,19 @@ use mathlib.Core.Path.{_≡_, refl, sym, ap, _∙_}
 use mathlib.Core.Bool.{true, false}
 use mathlib.Core.List.{List, [], _∷_, _++_, flatten}
 use borrow.Author.Tests.{lt-ltb, le-ltb}
+use lib.ListN.{length}
 use Rattle.text.specs.Text.{decimalWithin}
 use Rattle.playing.specs.declared.Answer.the-variants as answer
 use Rattle.device.specs.declared.Device.{Device}
 use Rattle.device.specs.declared.Output.{Output}
 use Rattle.device.specs.Device.{freshDevice, isWrongP, started}
-use Rattle.service.specs.Page.{pageText}
+use Rattle.service.specs.Page.{pageText, pageAfter}
 use Rattle.listed.specs.declared.Awaits.the-variants.{Midi, Refused}
 use Rattle.listed.specs.declared.Lister.{Lister}
 use Rattle.listed.specs.Listing.{newLister, behindStart, startLister, afterMidi, after, afterAll}
 use Rattle.listed.proofs.Parts.{after-parts}
 use Rattle.listed.proofs.Sentences.{none-missing, nothing-changed, stopped}
-use Rattle.page_lines.specs.PageLines.{partsTaken, ended, numberLine, answerText, paged, played}
+use Rattle.page_lines.specs.PageLines.{partsTaken, ended, numberLine, pageRoom, AnswerPut, answerText, paged, played}
 
 -- ---- however the input is cut into reads
 
@@ -93,7 +94,7 @@ plays l (b ∷ bs) e = rw e (plays (afterMidi l b) bs refl)
 
 page-text : (l : Lister) (d : Device) → l .awaits ≡ Midi → l .device ≡ d → answerText (ended l) ≡ pageText d
 unfolding answerText ended afterAll
-page-text l d e f = rw (e, f)
+page-text l d e f = rw e (ap pageText f)
 
 pub good-start : (p id : ℕ) (bs : List ℕ) → isWrongP p ≡ false → id ≤ 126 → paged (p ∷ id ∷ bs) ≡ pageText (played (freshDevice p id) bs)
 unfolding paged newLister afterAll after started startLister behindStart
@@ -101,3 +102,9 @@ good-start p id bs e h =
     let l : Lister = record { awaits = Midi; at = 0; device = freshDevice p id } in
     let m = plays l bs refl in
     rw (e, le-ltb 126 id h) (page-text (afterAll l bs) (played (freshDevice p id) bs) (m .0) (m .1))
+
+-- ---- without room for the page nothing is written
+
+pub no-room : (d : Device) (old new : List ℕ) (next : ℕ) → AnswerPut Midi d old next new → length old < 323 → (next ≡ 0) × (new ≡ old)
+unfolding pageRoom pageAfter
+no-room d old new next a h = (a .0 ∙ rw (lt-ltb (length old) 323 h) refl, a .1 ∙ rw (lt-ltb (length old) 323 h) refl)

@@ -5,8 +5,8 @@ ghost use mathlib.Core.Path.{_≡_};
 ghost use lib.ListN.{length, take};
 ghost use Rattle.text.specs.Text.{Put};
 ghost use Rattle.listed.specs.Listing.{afterAll};
-ghost use Rattle.service.specs.Page.{pageText};
-ghost use Rattle.page_lines.specs.PageLines.{ended, numberLine, answerText};
+ghost use Rattle.service.specs.Page.{pageAfter};
+ghost use Rattle.page_lines.specs.PageLines.{ended, numberLine, pageRoom, AnswerPut, answerText};
 use device::Device;
 use listed::Awaits;
 use listed::Lister;
@@ -38,7 +38,7 @@ pub fn end(l: Lister) -> Lister
 
 // The service page at the page's start; nothing where it has no room.
 fn put_page(page: &mut [u8], d: Device) -> usize
-    ensures { λ r. ⌜ (323 ≤ length (now (page .entry)) → take r (now (page .exit)) ≡ pageText d) ⌝ }
+    ensures { λ r. ⌜ (r ≡ pageRoom (now (page .entry))) × (now (page .exit) ≡ pageAfter d (now (page .entry))) ⌝ }
 {
     let a = service::write_page(d, page);
     match a {
@@ -57,6 +57,7 @@ fn put_refused(page: &mut [u8], n: u8) -> usize
 
 // The answer, at the page's start. Where the page has 323 bytes, it stands before the place that is answered, whole.
 pub fn put_answer(page: &mut [u8], l: Lister) -> usize
+    ensures { λ r. ⌜ AnswerPut (l .awaits) (l .device) (now (page .entry)) r (now (page .exit)) ⌝ }
     ensures { λ r. ⌜ (323 ≤ length (now (page .entry)) → take r (now (page .exit)) ≡ answerText l) ⌝ }
 {
     let awaits = l.awaits;

@@ -66,6 +66,11 @@ pub last-line : drop 304 (pageOf four 24 (λ c. c)) ≡ 49 ∷ 54 ∷ 32 ∷ 32 
 unfolding inTwo inThree standingFrom sharesFrom lookup head line row rowsTo pageOf
 last-line = refl
 
+-- there are lines of sixteen channels: the last begins with 16
+pub last-channel : take 2 (drop 304 (pageOf four 24 (λ c. c))) ≡ 49 ∷ 54 ∷ []
+unfolding inTwo inThree standingFrom sharesFrom lookup head line row rowsTo pageOf
+last-channel = refl
+
 -- ---- the buffer
 
 -- "Bytes after the 323rd keep their content"

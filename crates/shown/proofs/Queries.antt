@@ -1,12 +1,11 @@
--- The page agrees with the queries. A generator from P on is idle, so that asking for all 256 numbers counts what the record's pass over 64 counts; and a busy generator is on one
--- of the sixteen channels, since its note stands on a channel that the table lists.
+-- The page agrees with the queries. A generator from P on is idle, so that asking for all 256 numbers counts what the record's pass over 64 counts.
 -- Assumes nothing.
 use Prim.Native.Nat.{ℕ, _≤_}
 use mathlib.Core.Path.{_≡_, refl, sym, ap, _∙_}
 use mathlib.Core.Bool.{Bool, true, false, _&&_}
 use mathlib.Core.List.{[], _∷_}
 use native.Mathlib.Omega.{arith}
-use borrow.Author.Tests.{leb-true, eqb-true, le-leb}
+use borrow.Author.Tests.{leb-true, le-leb}
 use lib.Dec.{leb}
 use Rattle.loops.specs.Cases.{bit}
 use Rattle.loops.proofs.Totals.{total-same}
@@ -20,6 +19,7 @@ use Rattle.device.specs.declared.Device.{Device}
 use Rattle.queries.specs.Queries.{generatorQuery}
 use Rattle.service.specs.Page.{shareField, mark, row, pageText}
 use Rattle.demand3.specs.Demand3.{after, Live, begin}
+use Rattle.demand3.proofs.Playable.{idle-busy}
 use Rattle.demand3.proofs.Choose.{total-cut}
 use Rattle.shown.specs.Shown.{shareTold, markTold, isBusyTold, isOnTold, busyTold, Agrees, AgreesWithQueries}
 use Rattle.shown.proofs.Book.{matched}
@@ -37,9 +37,6 @@ mark-told (Units n) = refl
 
 -- ---- generators
 
-not-busy : (x : Generator) → isIdle x ≡ true → isBusy x ≡ false
-not-busy x i = rw (eqb-true (x .state) 0 i) refl
-
 module _ (d : Device) (above : (g : ℕ) → d .instrument .polyphony ≤ g → isIdle (at (d .instrument .generators) g) ≡ true) where
   abbrev gen : ℕ → Generator
   gen g = at (d .instrument .generators) g
@@ -50,7 +47,7 @@ module _ (d : Device) (above : (g : ℕ) → d .instrument .polyphony ≤ g → 
   told-busy g = go (leb (d .instrument .polyphony) g) refl
     where
       go : (b : Bool) → leb (d .instrument .polyphony) g ≡ b → isBusyTold (generatorQuery d g) ≡ isBusy (gen g)
-      go true e = rw e (sym (not-busy (gen g) (above g (leb-true _ _ e))))
+      go true e = rw e (sym (idle-busy (gen g) (above g (leb-true _ _ e))))
       go false e = rw e refl
 
   told-busy-on : (c g : ℕ) → isBusyTold (generatorQuery d g) && isOnTold c (generatorQuery d g) ≡ isBusyOn c (gen g)
@@ -58,14 +55,14 @@ module _ (d : Device) (above : (g : ℕ) → d .instrument .polyphony ≤ g → 
   told-busy-on c g = go (leb (d .instrument .polyphony) g) refl
     where
       go : (b : Bool) → leb (d .instrument .polyphony) g ≡ b → isBusyTold (generatorQuery d g) && isOnTold c (generatorQuery d g) ≡ isBusyOn c (gen g)
-      go true e = rw (e, not-busy (gen g) (above g (leb-true _ _ e))) refl
+      go true e = rw (e, idle-busy (gen g) (above g (leb-true _ _ e))) refl
       go false e = rw e refl
 
   pub none-busy : (g : ℕ) → d .instrument .polyphony ≤ g → bit (isBusy (gen g)) ≡ 0
-  none-busy g h = rw (not-busy (gen g) (above g h)) refl
+  none-busy g h = rw (idle-busy (gen g) (above g h)) refl
 
   none-on : (c g : ℕ) → d .instrument .polyphony ≤ g → bit (isBusyOn c (gen g)) ≡ 0
-  none-on c g h = rw (not-busy (gen g) (above g h)) refl
+  none-on c g h = rw (idle-busy (gen g) (above g h)) refl
 
   module _ (few : d .instrument .polyphony ≤ 64) where
     pub told-count : (c : ℕ) → busyTold d c ≡ busyCount (d .instrument .generators) c

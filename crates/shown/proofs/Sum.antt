@@ -1,16 +1,16 @@
 -- What stands under `NT` comes to the number of busy generators: each busy generator is counted on one channel, and that is one of the sixteen, since its note stands on a channel that
 -- the table lists. The sum over channels of sums over generators is the sum over generators of sums over channels.
 -- Assumes nothing.
-use Prim.Native.Nat.{ℕ, zero, suc, _+_, _≤_, _<_}
+use Prim.Native.Nat.{ℕ, zero, suc, _+_, _/_, _%_, _≤_, _<_}
 use mathlib.Core.Path.{_≡_, refl, sym, ap, _∙_}
 use mathlib.Core.Bool.{Bool, true, false, _&&_, _||_}
 use mathlib.Core.List.{List, [], _∷_}
 use native.Mathlib.Omega.{arith}
-use borrow.Author.Tests.{leb-true, leb-false, eqb-true, eq-eqb, ne-eqb}
-use lib.Dec.{eqb, leb}
-use Rattle.loops.specs.Cases.{bit}
+use borrow.Author.Tests.{leb-true, leb-false, ltb-true, eqb-true, eq-eqb, ne-eqb}
+use lib.Dec.{eqb, ltb, leb}
+use Rattle.loops.specs.Cases.{bit, if_then_else_}
 use Rattle.loops.specs.Passes.{total}
-use Rattle.loops.proofs.Totals.{total-same, total-add, total-zero}
+use Rattle.loops.proofs.Totals.{total-same, total-add, total-zero, total-bits}
 use Rattle.table.specs.declared.Entry.{Entry}
 use Rattle.table.specs.Laws.{Channels}
 use Rattle.table.specs.Table.{listed}
@@ -18,13 +18,14 @@ use Rattle.shares.proofs.Shares.{shares-channels}
 use Rattle.generators.specs.Generators.{Generator, at, isIdle, isHeld, isSustained, isBusy, isBusyOn}
 use Rattle.choice.specs.Choice.{busyCount}
 use Rattle.queries.specs.Queries.{generatorQuery}
+use Rattle.service.specs.Page.{inTwo}
 use Rattle.demand3.specs.Demand3.{slotOf, after, Live, begin}
 use Rattle.demand3.proofs.Pigeons.{IsListed}
 use Rattle.demand3.proofs.Choose.{total-cut}
 use Rattle.demand3.proofs.Matches.{quota}
-use Rattle.shown.specs.Shown.{isBusyTold, busyTold, NotesAddUp}
+use Rattle.shown.specs.Shown.{isBusyTold, busyTold, field, readTwo, NotesAddUp}
 use Rattle.shown.proofs.Book.{matched}
-use Rattle.shown.proofs.Queries.{told-busy, told-count, none-busy}
+use Rattle.shown.proofs.Queries.{told-busy, told-count, none-busy, agrees-with-queries}
 
 -- ---- sums
 
@@ -84,6 +85,15 @@ once x h = go (isBusy x) h
 
 -- ---- the law
 
+-- two places give back the number that was written in them
+read-two : (n : ℕ) → n < 100 → readTwo (inTwo n) ≡ n
+unfolding inTwo
+read-two n h = go (ltb n 10) refl
+  where
+    go : (a : Bool) → ltb n 10 ≡ a → readTwo ((if a then 32 else 48 + n / 10) ∷ (48 + n % 10) ∷ []) ≡ n
+    go true e = let s = ltb-true n 10 e in omega arith
+    go false e = omega arith
+
 pub notes-add-up : NotesAddUp
 unfolding busyCount
 notes-add-up p id l =
@@ -93,7 +103,9 @@ notes-add-up p id l =
     let b = after Live (begin p id) l .book in
     let above : (g : ℕ) → d .instrument .polyphony ≤ g → isIdle (at s g) ≡ true = λ g h. m .playable .above g (rw (m .polyphony) at h) in
     let few : d .instrument .polyphony ≤ 64 = rw (m .polyphony) (m .playable .few) in
-    total-same (λ (i : ℕ). busyTold d (i + 1)) (λ (i : ℕ). busyCount s (i + 1)) 16 (λ i h. told-count d above few (i + 1))
+    let small : (c : ℕ) → busyTold d c ≤ 64 = λ c. rw (told-count d above few c) (total-bits (λ (g : ℕ). isBusyOn c (at s g)) 64) in
+    total-same (λ (i : ℕ). readTwo (field 16 2 (i + 1) d)) (λ (i : ℕ). busyTold d (i + 1)) 16 (λ i h. rw (agrees-with-queries p id l (i + 1) (omega arith) (omega arith) .notes) (read-two (busyTold d (i + 1)) (let k = small (i + 1) in omega arith)))
+    ∙ total-same (λ (i : ℕ). busyTold d (i + 1)) (λ (i : ℕ). busyCount s (i + 1)) 16 (λ i h. told-count d above few (i + 1))
     ∙ swapped (λ (i g : ℕ). bit (isBusyOn (i + 1) (at s g))) 16 64
     ∙ total-same (λ (g : ℕ). total (λ i. bit (isBusyOn (i + 1) (at s g))) 16) (λ (g : ℕ). bit (isBusy (at s g))) 64
     (λ g h. once (at s g) (λ e. in-range (at s g .channel) (quota b) (shares-channels (b .polyphony) 0 (b .table) (m .well-formed .channels)) (busy-listed (quota b) (at s g) (rw (m .notes g) at (m .unmasked g)) e)))

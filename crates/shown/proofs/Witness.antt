@@ -1,15 +1,17 @@
 -- The claims bite. First their words: a claim emptied behind its name would not give these facts. Then a page, computed from the definitions: what stands on it after a list of bytes.
 -- Assumes nothing.
-use Prim.Native.Nat.{ℕ, zero, suc, _+_}
+use Prim.Native.Nat.{ℕ, zero, suc, _+_, _*_, _<_}
 use mathlib.Core.Path.{_≡_, refl, ap, _∙_}
 use mathlib.Core.Bool.{_&&_}
 use mathlib.Core.List.{List, [], _∷_}
 use native.Mathlib.Omega.{arith}
-use lib.ListN.{length, replicate, length-append}
+use lib.ListN.{length, take, drop, replicate, length-append}
+use lib.Seq.{take-at, drop-at}
 use Rattle.loops.specs.Cases.{bit}
 use Rattle.loops.specs.Passes.{upTo, total, filterBy, firstOf, padded}
 use Rattle.splitter.specs.Split.{begun, stored, oneDataByte, completed, dataByte, opened, ended, statusByte, split}
 use Rattle.message.specs.Message.{decode}
+use Rattle.table.specs.declared.Entry.{Entry}
 use Rattle.table.specs.declared.Table.{Table}
 use Rattle.table.specs.Table.{entry, entriesOf, tableOf, startTable, listed}
 use Rattle.shares.specs.declared.MaskAnswer.the-variants.{IsMasked, IsUnmasked}
@@ -40,7 +42,7 @@ use Rattle.queries.specs.Queries.{generatorQuery, deviceMask, deviceShare}
 use Rattle.log.specs.Log.{decimal}
 use Rattle.service.specs.Page.{inTwo, inThree, standingFrom, placeField, valueField, head, line, row, rowsTo, pageOf, pageText}
 use Rattle.demand3.specs.Demand3.{notesOn, after, Live, begin}
-use Rattle.shown.specs.Shown.{ShowsTheBook, isBusyTold, isOnTold, busyTold, lineAt, field, Agrees, AgreesWithQueries, NotesAddUp, Characters, IsLine, Bytes, OfBytes, SeventeenLines, RightAligned}
+use Rattle.shown.specs.Shown.{ShowsTheBook, isBusyTold, isOnTold, readTwo, lineAt, field, Agrees, AgreesWithQueries, NotesAddUp, Characters, IsLine, Bytes, OfBytes, SeventeenLines, RightAligned}
 
 -- ---- the words
 
@@ -74,10 +76,10 @@ module _ (d : Device) (c : ℕ) (a : Agrees d c) where
 
 -- all sixteen channels, of all generators that one may ask for
 pub sum-of-sixteen : NotesAddUp → (p id : ℕ) (l : List Event)
-    → let d = after Live (begin p id) l .device in total (λ i. busyTold d (i + 1)) 16 ≡ total (λ g. bit (isBusyTold (generatorQuery d g))) 256
+    → let d = after Live (begin p id) l .device in total (λ i. readTwo (field 16 2 (i + 1) d)) 16 ≡ total (λ g. bit (isBusyTold (generatorQuery d g))) 256
 sum-of-sixteen a = a
 
--- a line's end is no character, nor is a control character
+-- a line's end is no character
 pub no-end-within : Characters (10 ∷ []) → ⊥
 no-end-within c = absurd (let h = c .0 .0 in omega arith)
 
@@ -85,7 +87,29 @@ pub no-delete-within : Characters (127 ∷ []) → ⊥
 no-delete-within c = absurd (let h = c .0 .1 in omega arith)
 
 pub nineteen-bytes : (bytes : List ℕ) → IsLine bytes → length bytes ≡ 19
-nineteen-bytes bytes l = ap length (l .ended) ∙ length-append (l .text) (10 ∷ []) ∙ rw (l .eighteen) refl
+nineteen-bytes bytes l = ap length (l .ended) ∙ length-append (l .text) _ ∙ (let e = l .eighteen in omega arith)
+
+-- a line's first 18 bytes are characters, and behind them stands 0AH
+pub line-characters : (bytes : List ℕ) → IsLine bytes → Characters (take 18 bytes)
+line-characters bytes l = rw (l .ended, take-at (l .text) (10 ∷ []) 18 (l .eighteen)) (l .characters)
+
+pub line-ended : (bytes : List ℕ) → IsLine bytes → drop 18 bytes ≡ 10 ∷ []
+line-ended bytes l = rw (l .ended) (drop-at (l .text) (10 ∷ []) 18 (l .eighteen))
+
+-- no control character: 31 is the last of them
+pub no-control-within : Characters (31 ∷ []) → ⊥
+no-control-within c = absurd (let h = c .0 .0 in omega arith)
+
+-- a line, and a field, is one of the page's
+pub line-of-the-page : (n : ℕ) (text : List ℕ) → lineAt n text ≡ take 19 (drop (19 * n) text)
+line-of-the-page n text = refl
+
+pub field-of-the-page : (a w c : ℕ) (d : Device) → field a w c d ≡ take w (drop a (lineAt c (pageText d)))
+field-of-the-page a w c d = refl
+
+-- any values of bytes
+pub any-values : (e : Entry) (l : List Entry) → e .value < 256 → Bytes l → Bytes (e ∷ l)
+any-values e l h b = (h, b)
 
 -- a record of FF bytes is one of bytes, and has its 17 lines
 abbrev worst : Table

@@ -6,7 +6,7 @@ use mathlib.Core.Path.{_≡_}
 use mathlib.Core.Bool.{Bool, false, _&&_, _||_}
 use mathlib.Core.List.{List, [], _∷_, _++_}
 use lib.Dec.{eqb}
-use lib.ListN.{length, take, drop, replicate}
+use lib.ListN.{length, take, drop, getD, replicate}
 use Rattle.loops.specs.Cases.{bit}
 use Rattle.loops.specs.Passes.{total}
 use Rattle.table.specs.declared.Entry.{Entry}
@@ -84,9 +84,13 @@ pub record Agrees (d : Device) (c : ℕ) : Type 0 where
 abbrev pub AgreesWithQueries : Type 0
 AgreesWithQueries = (p id : ℕ) (l : List Event) (c : ℕ) → 1 ≤ c → c ≤ 16 → Agrees (after Live (begin p id) l .device) c
 
+-- a number in two places, read off its characters: a blank, 32, is less than digit 0, 48, and counts as 0
+abbrev pub readTwo : List ℕ → ℕ
+readTwo text = (getD text 0 0 - 48) * 10 + (getD text 1 0 - 48)
+
 -- what stands under `NT` comes to the number of busy generators
 abbrev pub NotesAddUp : Type 0
-NotesAddUp = (p id : ℕ) (l : List Event) → total (λ i. busyTold (after Live (begin p id) l .device) (i + 1)) 16 ≡ allBusyTold (after Live (begin p id) l .device)
+NotesAddUp = (p id : ℕ) (l : List Event) → total (λ i. readTwo (field 16 2 (i + 1) (after Live (begin p id) l .device))) 16 ≡ allBusyTold (after Live (begin p id) l .device)
 
 -- ---- the text
 

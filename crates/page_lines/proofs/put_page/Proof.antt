@@ -1,7 +1,7 @@
--- `page_lines::put_page`: where there is room the page is written, and it has 323 bytes.
+-- `page_lines::put_page`: the page is written where there is room, and then it has 323 bytes.
 -- Assumes nothing.
 use mathlib.Core.Path.{sym, _∙_}
-use Rattle.page_lines.proofs.Room.{page-written, not-short}
+use Rattle.page_lines.proofs.Room.{room-of-written, room-of-short}
 use borrow.Author.Needs.{needs}
 use Rattle.page_lines.proofs.put_page.Statement.{statement}
 use Rattle.page_lines.proofs.put_page.Tie as tie
@@ -19,13 +19,17 @@ same-length : tie.Need-same-length
 same-length c = search needs
 
 returns : tie.Need-returns
-returns c = λ h. page-written _ _ _ h (c .before .before .before .before .write-page .ensures .1)
+returns c =
+    let w = c .before .before .before .before .write-page .ensures in
+    (room-of-written _ (sym (c .enum-told .given .1) ∙ w .0), w .1)
 
 same-length-2 : tie.Need-same-length-2
 same-length-2 c = search needs
 
 returns-2 : tie.Need-returns-2
-returns-2 c = λ h. not-short _ h (sym (c .enum-told2 .given .1) ∙ c .before .before .before .before .write-page .ensures .0)
+returns-2 c =
+    let w = c .before .before .before .before .write-page .ensures in
+    (room-of-short _ (sym (c .enum-told2 .given .1) ∙ w .0), w .1)
 
 pub put-page-spec : {M : Type 1} → statement M
 put-page-spec =
