@@ -3,10 +3,9 @@
 use Prim.Native.Nat.{ℕ, zero, suc, _+_, _*_, _<_}
 use mathlib.Core.Path.{_≡_, refl, ap, _∙_}
 use mathlib.Core.Bool.{_&&_}
-use mathlib.Core.List.{List, [], _∷_}
+use mathlib.Core.List.{List, [], _∷_, _++_}
 use native.Mathlib.Omega.{arith}
 use lib.ListN.{length, take, drop, replicate, length-append}
-use lib.Seq.{take-at, drop-at}
 use Rattle.loops.specs.Cases.{bit}
 use Rattle.loops.specs.Passes.{upTo, total, filterBy, firstOf, padded}
 use Rattle.splitter.specs.Split.{begun, stored, oneDataByte, completed, dataByte, opened, ended, statusByte, split}
@@ -89,12 +88,12 @@ no-delete-within c = absurd (let h = c .0 .1 in omega arith)
 pub nineteen-bytes : (bytes : List ℕ) → IsLine bytes → length bytes ≡ 19
 nineteen-bytes bytes l = ap length (l .ended) ∙ length-append (l .text) _ ∙ (let e = l .eighteen in omega arith)
 
--- a line's first 18 bytes are characters, and behind them stands 0AH
-pub line-characters : (bytes : List ℕ) → IsLine bytes → Characters (take 18 bytes)
-line-characters bytes l = rw (l .ended, take-at (l .text) (10 ∷ []) 18 (l .eighteen)) (l .characters)
+-- its text has characters alone, and behind it stands 0AH
+pub line-characters : (bytes : List ℕ) (l : IsLine bytes) → Characters (l .text)
+line-characters bytes l = l .characters
 
-pub line-ended : (bytes : List ℕ) → IsLine bytes → drop 18 bytes ≡ 10 ∷ []
-line-ended bytes l = rw (l .ended) (drop-at (l .text) (10 ∷ []) 18 (l .eighteen))
+pub line-ended : (bytes : List ℕ) (l : IsLine bytes) → bytes ≡ l .text ++ 10 ∷ []
+line-ended bytes l = l .ended
 
 -- no control character: 31 is the last of them
 pub no-control-within : Characters (31 ∷ []) → ⊥
