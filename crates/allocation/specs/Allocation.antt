@@ -6,14 +6,14 @@ use Rattle.table.specs.declared.Table.{Table}
 use Rattle.shares.specs.Shares.{shareOf, isMasked}
 use Rattle.generators.specs.declared.Generators.{Generators}
 use Rattle.generators.specs.Generators.{assigned}
-use Rattle.changes.specs.declared.Change.the-variants.{ReleaseNote}
-use Rattle.changes.specs.Changes.{changed}
+use Rattle.releases.specs.declared.Change.the-variants.{ReleaseNote}
+use Rattle.releases.specs.Releases.{changed}
 use Rattle.silence.specs.declared.Leaving.the-variants.{Group}
 use Rattle.silence.specs.Silence.{silenced}
-use Rattle.choice.specs.declared.Found.{Found}
-use Rattle.choice.specs.declared.Found.the-variants.{At, Nothing}
-use Rattle.choice.specs.declared.Want.the-variants.{Releasing, BusyOn}
-use Rattle.choice.specs.Choice.{lowestIdle, oldest}
+use Rattle.candidates.specs.declared.Found.{Found}
+use Rattle.candidates.specs.declared.Found.the-variants.{At, Nothing}
+use Rattle.candidates.specs.declared.Want.the-variants.{Releasing, BusyOn}
+use Rattle.candidates.specs.Candidates.{lowestIdle, oldest}
 use Rattle.stealing.specs.declared.Loser.{Loser}
 use Rattle.stealing.specs.declared.Loser.the-variants.{Channel, Nobody}
 use Rattle.stealing.specs.Stealing.{stealFrom}

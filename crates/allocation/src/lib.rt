@@ -2,9 +2,9 @@
 // of the table. Assumes nothing.
 ghost use mathlib.Core.Path.{_≡_};
 ghost use Rattle.allocation.specs.Allocation.{cleared, stolen, stealOf, step5, orElse5, choice, allocated, noteOn};
-use changes::Change;
-use choice::Found;
-use choice::Want;
+use releases::Change;
+use candidates::Found;
+use candidates::Want;
 use generators::Generators;
 use silence::Leaving;
 use stealing::Loser;
@@ -37,7 +37,7 @@ pub struct Allocated {
 fn clear(s: Generators, rhythm: bool, channel: u8, key: u8) -> Generators
     ensures { λ r. ⌜ r ≡ cleared rhythm channel key s ⌝ }
 {
-    let released = changes::apply(s, Change::ReleaseNote(channel, key));
+    let released = releases::apply(s, Change::ReleaseNote(channel, key));
     if rhythm {
         return silence::fall_silent(released, Leaving::Group(channel, key));
     }
@@ -51,7 +51,7 @@ fn steal(s: Generators, t: Table, p: u8, channel: u8) -> Taken
     let Loser::Channel(d) = stealing::steal_from(s, t, p, channel) else {
         return Taken::Refused(11);
     };
-    let Found::At(g) = choice::oldest(s, Want::BusyOn(d)) else {
+    let Found::At(g) = candidates::oldest(s, Want::BusyOn(d)) else {
         return Taken::Refused(11);
     };
     Taken::Took(g, Was::Stolen)
@@ -61,10 +61,10 @@ fn steal(s: Generators, t: Table, p: u8, channel: u8) -> Taken
 fn choose(s: Generators, t: Table, p: u8, channel: u8) -> Taken
     ensures { λ r. ⌜ r ≡ choice s t p channel ⌝ }
 {
-    if let Found::At(g) = choice::lowest_idle(s, p) {
+    if let Found::At(g) = candidates::lowest_idle(s, p) {
         return Taken::Took(g, Was::Idle);
     }
-    if let Found::At(g) = choice::oldest(s, Want::Releasing) {
+    if let Found::At(g) = candidates::oldest(s, Want::Releasing) {
         return Taken::Took(g, Was::Release);
     }
     steal(s, t, p, channel)

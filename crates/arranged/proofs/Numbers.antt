@@ -30,12 +30,12 @@ use Rattle.sysex.specs.SysEx.{kindOf, pairs, faulty, judgedBy, judged}
 use Rattle.sysex.specs.SysEx as judging
 use Rattle.generators.specs.declared.Generators.{Generators}
 use Rattle.generators.specs.Generators.{at, isIdle}
-use Rattle.changes.specs.declared.Change.the-variants.{NoteOff}
-use Rattle.changes.specs.Changes.{changed}
-use Rattle.choice.specs.declared.Found.{Found}
-use Rattle.choice.specs.declared.Found.the-variants as found
-use Rattle.choice.specs.declared.Want.the-variants.{BusyOn, Releasing}
-use Rattle.choice.specs.Choice.{lowestIdle, oldest}
+use Rattle.releases.specs.declared.Change.the-variants.{NoteOff}
+use Rattle.releases.specs.Releases.{changed}
+use Rattle.candidates.specs.declared.Found.{Found}
+use Rattle.candidates.specs.declared.Found.the-variants as found
+use Rattle.candidates.specs.declared.Want.the-variants.{BusyOn, Releasing}
+use Rattle.candidates.specs.Candidates.{lowestIdle, oldest}
 use Rattle.stealing.specs.declared.Loser.{Loser}
 use Rattle.stealing.specs.declared.Loser.the-variants as loser
 use Rattle.stealing.specs.Stealing.{stealFrom}

@@ -23,7 +23,7 @@ use Rattle.sysex.specs.declared.Kind.{Kind}
 use Rattle.sysex.specs.declared.Kind.the-variants as kind
 use Rattle.sysex.specs.SysEx.{kindOf}
 use Rattle.playing.specs.declared.Answer.{Answer}
-use Rattle.demand3.specs.Demand3.{Slot, empty, note, isNote, freed, put, Heard, nothing, message, newTable, reset, report, isDone, exclusiveHeard, completedHeard}
+use Rattle.note_book.specs.Demand3.{Slot, empty, note, isNote, freed, put, Heard, nothing, message, newTable, reset, report, isDone, exclusiveHeard, completedHeard}
 
 -- ---- bytes in hand
 

@@ -24,23 +24,23 @@ use Rattle.shares.proofs.Shares.{sum-from, shares-distinct, masked-unlisted}
 use Rattle.ages.specs.Ages.{oldestFirst, agesOf, otherThan}
 use Rattle.generators.specs.declared.Generators.{Generators}
 use Rattle.generators.specs.Generators.{Generator, generator, at, isIdle, isSounding, isBusyOn, assigned, silent}
-use Rattle.changes.specs.declared.Change.the-variants.{ReleaseNote}
-use Rattle.changes.specs.Changes.{changes, changed}
-use Rattle.choice.specs.declared.Found.the-variants.{At}
-use Rattle.choice.specs.declared.Want.the-variants.{BusyOn}
-use Rattle.choice.specs.Choice.{found, wanted, oldest}
-use Rattle.assignment.proofs.At.{assigned-at}
-use Rattle.assignment.proofs.Assigned.{order-length, assigned-order}
+use Rattle.releases.specs.declared.Change.the-variants.{ReleaseNote}
+use Rattle.releases.specs.Releases.{changes, changed}
+use Rattle.candidates.specs.declared.Found.the-variants.{At}
+use Rattle.candidates.specs.declared.Want.the-variants.{BusyOn}
+use Rattle.candidates.specs.Candidates.{found, wanted, oldest}
+use Rattle.age_law.proofs.At.{assigned-at}
+use Rattle.age_law.proofs.Assigned.{order-length, assigned-order}
 use Rattle.allocation.specs.declared.Was.the-variants.{Stolen}
 use Rattle.allocation.specs.declared.Taken.{Taken}
 use Rattle.allocation.specs.declared.Taken.the-variants.{Took}
 use Rattle.allocation.specs.declared.Allocated.{Allocated}
 use Rattle.allocation.specs.Allocation.{cleared, choice, allocated, noteOn}
 use Rattle.playing.specs.Playing.{replyOf}
-use Rattle.demand3.specs.Demand3.{Slot, empty, note, isNote, isOf, slotOf}
-use Rattle.demand3.proofs.Playable.{Playable, playable-assigned, playable-silent}
-use Rattle.demand3.proofs.Pigeons.{IsListed}
-use Rattle.demand3.proofs.Choose.{Chosen, free, theft, shut, total-cut, chosen}
+use Rattle.note_book.specs.Demand3.{Slot, empty, note, isNote, isOf, slotOf}
+use Rattle.note_book.proofs.Playable.{Playable, playable-assigned, playable-silent}
+use Rattle.note_book.proofs.Pigeons.{IsListed}
+use Rattle.note_book.proofs.Choose.{Chosen, free, theft, shut, total-cut, chosen}
 use Rattle.song.specs.Song.{isTheft}
 use Rattle.hardest.proofs.Counts.{total-full}
 

@@ -26,10 +26,10 @@ use Rattle.reports.specs.Reports.{reported}
 use Rattle.device.specs.Device.{freshDevice, byteTaken}
 use Rattle.events.specs.declared.Event.the-variants.{Byte}
 use Rattle.events.specs.Events.{taken}
-use Rattle.demand3.specs.Demand3.{Slot, empty, note, isNote, Book, withHolds, freshBook, isRhythm, isEnded, allFreed, put, remaining, keepNoteOn, notesAfter, keepControl, keepMessage, keepReport, Heard, message, keep, Both, Live}
-use Rattle.demand3.proofs.Matches.{Matches, Outcome, masked, served, robbed, turned, note-law}
-use Rattle.demand3.proofs.Run.{IsNoNote, Right, right-nothing, right-message, right-table, right-reset, right-report, Fine, fine-next}
-use Rattle.demand3.proofs.Bytes.{lawful, fine-fresh}
+use Rattle.note_book.specs.Demand3.{Slot, empty, note, isNote, Book, withHolds, freshBook, isRhythm, isEnded, allFreed, put, remaining, keepNoteOn, notesAfter, keepControl, keepMessage, keepReport, Heard, message, keep, Both, Live}
+use Rattle.note_book.proofs.Matches.{Matches, Outcome, masked, served, robbed, turned, note-law}
+use Rattle.note_book.proofs.Run.{IsNoNote, Right, right-nothing, right-message, right-table, right-reset, right-report, Fine, fine-next}
+use Rattle.note_book.proofs.Bytes.{lawful, fine-fresh}
 use Rattle.song.specs.Song.{isTheft, thefts}
 use Rattle.hardest.specs.Hardest.{mostThefts, polyphonyOf, NoWorse}
 use Rattle.hardest.proofs.Starts.{every-start}

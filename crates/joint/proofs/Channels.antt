@@ -16,7 +16,7 @@ use Rattle.loops.specs.Passes.{total}
 use Rattle.loops.proofs.Totals.{total-zero, total-same, total-add, total-bits}
 use Rattle.generators.specs.declared.Generators.{Generators}
 use Rattle.generators.specs.Generators.{at, isBusy, isBusyOn}
-use Rattle.choice.specs.Choice.{busyCount}
+use Rattle.candidates.specs.Candidates.{busyCount}
 use Rattle.joint.specs.Joint.{among, busyOn}
 
 -- ---- a channel among the first n

@@ -30,7 +30,7 @@ fn next_joint(order: [u8; 16], k: usize, joint: u8, s: Generators) -> u8
     if stands(order, k, c) {
         return joint;
     }
-    joint + choice::busy_count(s, c)
+    joint + candidates::busy_count(s, c)
 }
 
 fn larger_of(a: u8, b: u8) -> u8

@@ -15,7 +15,7 @@ use Rattle.loops.proofs.Marks.{a-mark}
 use Rattle.table.specs.declared.Table.{Table}
 use Rattle.generators.specs.declared.Generators.{Generators}
 use Rattle.generators.specs.Generators.{at, isBusy}
-use Rattle.changes.specs.Changes.{withStates}
+use Rattle.releases.specs.Releases.{withStates}
 use Rattle.masking.specs.Masking.{isNewlyMasked, masked}
 
 module _ (p : ℕ) (old new : Table) where

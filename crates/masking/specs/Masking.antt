@@ -7,7 +7,7 @@ use Rattle.table.specs.declared.Table.{Table}
 use Rattle.shares.specs.Shares.{shareOf, isMasked, isChannel}
 use Rattle.generators.specs.declared.Generators.{Generators}
 use Rattle.generators.specs.Generators.{Generator, at, isBusy}
-use Rattle.changes.specs.Changes.{withStates}
+use Rattle.releases.specs.Releases.{withStates}
 
 abbrev pub isNewlyMasked : ℕ → Table → Table → ℕ → Bool
 isNewlyMasked p old new c = isChannel c && (not (isMasked (shareOf old p c)) && isMasked (shareOf new p c))

@@ -5,8 +5,8 @@ use lib.Dec.{eqb, ltb}
 use Rattle.loops.specs.Cases.{if_then_else_}
 use Rattle.channels.specs.Channel.{controlled}
 use Rattle.generators.specs.declared.Generators.{Generators}
-use Rattle.changes.specs.declared.Change.the-variants.{NoteOff, AllNotesOff, PedalUp}
-use Rattle.changes.specs.Changes.{changed}
+use Rattle.releases.specs.declared.Change.the-variants.{NoteOff, AllNotesOff, PedalUp}
+use Rattle.releases.specs.Releases.{changed}
 use Rattle.silence.specs.declared.Leaving.the-variants.{Channel}
 use Rattle.silence.specs.Silence.{silenced}
 use Rattle.instrument.specs.declared.Instrument.{Instrument}

@@ -2,7 +2,7 @@
 // mask is looked at here. Assumes nothing.
 ghost use mathlib.Core.Path.{_≡_};
 ghost use Rattle.other_messages.specs.OtherMessages.{notesAfter, playNoteOff, playControl};
-use changes::Change;
+use releases::Change;
 use generators::Generators;
 use instrument::Instrument;
 use silence::Leaving;
@@ -12,13 +12,13 @@ fn notes_after(s: Generators, pedal: bool, channel: u8, n: u8, v: u8) -> Generat
     ensures { λ r. ⌜ r ≡ notesAfter pedal channel n v s ⌝ }
 {
     if ((n == 64) & (v < 64)) | ((n == 121) & (v == 0)) {
-        return changes::apply(s, Change::PedalUp(channel));
+        return releases::apply(s, Change::PedalUp(channel));
     }
     if (n == 120) & (v == 0) {
         return silence::fall_silent(s, Leaving::Channel(channel));
     }
     if (n == 123) & (v == 0) {
-        return changes::apply(s, Change::AllNotesOff(pedal, channel));
+        return releases::apply(s, Change::AllNotesOff(pedal, channel));
     }
     s
 }
@@ -41,6 +41,6 @@ pub fn note_off(i: Instrument, channel: u8, key: u8) -> Instrument
         return i;
     }
     let pedal = i.pedal_down(channel);
-    let after = changes::apply(i.generators, Change::NoteOff(pedal, channel, key));
+    let after = releases::apply(i.generators, Change::NoteOff(pedal, channel, key));
     i.with_generators(after)
 }

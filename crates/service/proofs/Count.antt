@@ -18,7 +18,7 @@ use Rattle.loops.proofs.Tests.{and-left, and-right}
 use Rattle.loops.proofs.Totals.{total-next, total-bits}
 use Rattle.generators.specs.declared.Generators.{Generators}
 use Rattle.generators.specs.Generators.{generator, isBusy, isBusyOn}
-use Rattle.choice.specs.Choice.{busyCount}
+use Rattle.candidates.specs.Candidates.{busyCount}
 
 -- generator h, by the numbers in the record, is busy on channel c
 abbrev busyAt : List ℕ → List ℕ → ℕ → ℕ → Bool

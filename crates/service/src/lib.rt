@@ -9,7 +9,7 @@ ghost use lib.ListN.{length, getD, take, drop};
 ghost use Rattle.loops.specs.Passes.{upTo};
 ghost use Rattle.table.specs.Table.{entriesOf};
 ghost use Rattle.generators.specs.Generators.{generator, isBusy};
-ghost use Rattle.choice.specs.Choice.{busyCount};
+ghost use Rattle.candidates.specs.Candidates.{busyCount};
 ghost use Rattle.service.specs.Page.{inTwo, inThree, standingFrom, placeField, valueField, shareField, mark, row, rowsTo, pageAfter, pageAnswer};
 use device::Device;
 use generators::Generators;

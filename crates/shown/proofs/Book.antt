@@ -3,15 +3,15 @@
 use Prim.Native.Nat.{ℕ}
 use mathlib.Core.Path.{refl}
 use mathlib.Core.List.{List}
-use Rattle.choice.specs.Choice.{busyCount}
+use Rattle.candidates.specs.Candidates.{busyCount}
 use Rattle.events.specs.declared.Event.{Event}
 use Rattle.service.specs.Page.{pageOf, pageText}
 use Rattle.service.proofs.Lines.{rows-same}
-use Rattle.demand3.specs.Demand3.{notesOn, after, Live, begin}
-use Rattle.demand3.proofs.Matches.{Matches}
-use Rattle.demand3.proofs.Choose.{count-notes}
-use Rattle.demand3.proofs.Run.{fine-after}
-use Rattle.demand3.proofs.Bytes.{lawful, fine-begin}
+use Rattle.note_book.specs.Demand3.{notesOn, after, Live, begin}
+use Rattle.note_book.proofs.Matches.{Matches}
+use Rattle.note_book.proofs.Choose.{count-notes}
+use Rattle.note_book.proofs.Run.{fine-after}
+use Rattle.note_book.proofs.Bytes.{lawful, fine-begin}
 use Rattle.shown.specs.Shown.{ShowsTheBook}
 
 -- what demand 3 keeps of the device and the book

@@ -14,13 +14,13 @@ use Rattle.shares.specs.declared.Share.{Share}
 use Rattle.shares.specs.declared.Share.the-variants.{Masked, Units}
 use Rattle.shares.specs.Shares.{isChannel, maskAnswer, shareAnswer, maskQuery, shareQuery, shareOf}
 use Rattle.generators.specs.Generators.{Generator, at, isIdle, isBusy, isBusyOn}
-use Rattle.choice.specs.Choice.{busyCount}
+use Rattle.candidates.specs.Candidates.{busyCount}
 use Rattle.device.specs.declared.Device.{Device}
 use Rattle.queries.specs.Queries.{generatorQuery}
 use Rattle.service.specs.Page.{shareField, mark, row, pageText}
-use Rattle.demand3.specs.Demand3.{after, Live, begin}
-use Rattle.demand3.proofs.Playable.{idle-busy}
-use Rattle.demand3.proofs.Choose.{total-cut}
+use Rattle.note_book.specs.Demand3.{after, Live, begin}
+use Rattle.note_book.proofs.Playable.{idle-busy}
+use Rattle.note_book.proofs.Choose.{total-cut}
 use Rattle.shown.specs.Shown.{shareTold, markTold, isBusyTold, isOnTold, busyTold, Agrees, AgreesWithQueries}
 use Rattle.shown.proofs.Book.{matched}
 use Rattle.shown.proofs.Fields.{line-at, cut-channel, cut-place, cut-value, cut-share, cut-mark, cut-notes}

@@ -16,13 +16,13 @@ use Rattle.table.specs.Laws.{Channels}
 use Rattle.table.specs.Table.{listed}
 use Rattle.shares.proofs.Shares.{shares-channels}
 use Rattle.generators.specs.Generators.{Generator, at, isIdle, isHeld, isSustained, isBusy, isBusyOn}
-use Rattle.choice.specs.Choice.{busyCount}
+use Rattle.candidates.specs.Candidates.{busyCount}
 use Rattle.queries.specs.Queries.{generatorQuery}
 use Rattle.service.specs.Page.{inTwo}
-use Rattle.demand3.specs.Demand3.{slotOf, after, Live, begin}
-use Rattle.demand3.proofs.Pigeons.{IsListed}
-use Rattle.demand3.proofs.Choose.{total-cut}
-use Rattle.demand3.proofs.Matches.{quota}
+use Rattle.note_book.specs.Demand3.{slotOf, after, Live, begin}
+use Rattle.note_book.proofs.Pigeons.{IsListed}
+use Rattle.note_book.proofs.Choose.{total-cut}
+use Rattle.note_book.proofs.Matches.{quota}
 use Rattle.shown.specs.Shown.{isBusyTold, busyTold, field, readTwo, NotesAddUp}
 use Rattle.shown.proofs.Book.{matched}
 use Rattle.shown.proofs.Queries.{told-busy, told-count, none-busy, agrees-with-queries}

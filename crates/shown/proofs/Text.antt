@@ -20,7 +20,7 @@ use Rattle.shares.specs.declared.Share.the-variants.{Masked, Units}
 use Rattle.shares.specs.Shares.{sharesFrom, lookup}
 use Rattle.generators.specs.declared.Generators.{Generators}
 use Rattle.generators.specs.Generators.{at, isBusyOn}
-use Rattle.choice.specs.Choice.{busyCount}
+use Rattle.candidates.specs.Candidates.{busyCount}
 use Rattle.device.specs.declared.Device.{Device}
 use Rattle.log.specs.Log.{decimal}
 use Rattle.service.specs.declared.Standing.{Standing}

@@ -21,9 +21,9 @@ use Rattle.drums.specs.Drums.{groupOf, excludes}
 use Rattle.channels.specs.Channel as of-channel
 use Rattle.ages.specs.Ages.{agesOf, newest}
 use Rattle.generators.specs.Generators.{assigned, silent}
-use Rattle.changes.specs.Changes.{changes, stateAfter, changed}
+use Rattle.releases.specs.Releases.{changes, stateAfter, changed}
 use Rattle.silence.specs.Silence.{isAmong, leaves, silenced}
-use Rattle.choice.specs.Choice.{lowestIdle, wanted, oldest, busyCount}
+use Rattle.candidates.specs.Candidates.{lowestIdle, wanted, oldest, busyCount}
 use Rattle.stealing.specs.Stealing.{overShare, stealFrom}
 use Rattle.allocation.specs.Allocation.{cleared, step5, choice, noteOn}
 use Rattle.instrument.specs.Instrument.{fresh, channelOf, withChannel, isRhythm}
@@ -40,7 +40,7 @@ use Rattle.events.specs.Events.{reportTaken, taken}
 use Rattle.queries.specs.Queries.{generatorQuery, deviceMask, deviceShare}
 use Rattle.log.specs.Log.{decimal}
 use Rattle.service.specs.Page.{inTwo, inThree, standingFrom, placeField, valueField, head, line, row, rowsTo, pageOf, pageText}
-use Rattle.demand3.specs.Demand3.{notesOn, after, Live, begin}
+use Rattle.note_book.specs.Demand3.{notesOn, after, Live, begin}
 use Rattle.shown.specs.Shown.{ShowsTheBook, isBusyTold, isOnTold, readTwo, lineAt, field, Agrees, AgreesWithQueries, NotesAddUp, Characters, IsLine, Bytes, OfBytes, SeventeenLines, RightAligned}
 
 -- ---- the words

@@ -23,7 +23,7 @@ use Rattle.queries.specs.declared.GeneratorAnswer.the-variants.{GeneratorIs, No
 use Rattle.queries.specs.Queries.{generatorQuery, deviceMask, deviceShare}
 use Rattle.log.specs.Log.{decimal}
 use Rattle.service.specs.Page.{inTwo, inThree, standingFrom, placeField, valueField, pageOf, pageText}
-use Rattle.demand3.specs.Demand3.{Book, notesOn, after, Live, begin}
+use Rattle.note_book.specs.Demand3.{Book, notesOn, after, Live, begin}
 
 -- ---- the note book's page
 

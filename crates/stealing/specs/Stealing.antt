@@ -8,7 +8,7 @@ use Rattle.table.specs.declared.Entry.{Entry}
 use Rattle.table.specs.declared.Table.{Table}
 use Rattle.shares.specs.Shares.{shares}
 use Rattle.generators.specs.declared.Generators.{Generators}
-use Rattle.choice.specs.Choice.{busyCount}
+use Rattle.candidates.specs.Candidates.{busyCount}
 use Rattle.stealing.specs.declared.Loser.{Loser}
 use Rattle.stealing.specs.declared.Loser.the-variants.{Channel, Nobody}
 

@@ -24,7 +24,7 @@ fn is_over(s: Generators, e: Entry, before: u8, p: u8, new: u8) -> bool
     if p < e.value {
         return false;
     }
-    let count = choice::busy_count(s, e.channel) + loops::one(e.channel == new);
+    let count = candidates::busy_count(s, e.channel) + loops::one(e.channel == new);
     loops::less(e.value, before) < count
 }
 

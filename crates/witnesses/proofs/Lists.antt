@@ -14,9 +14,9 @@ use Rattle.shares.specs.Shares.{sharesFrom, lookup, shareOf}
 use Rattle.drums.specs.Drums.{groupOf, excludes}
 use Rattle.ages.specs.Ages.{agesOf, newest}
 use Rattle.generators.specs.Generators.{assigned, silent}
-use Rattle.changes.specs.Changes.{changes, stateAfter, changed}
+use Rattle.releases.specs.Releases.{changes, stateAfter, changed}
 use Rattle.silence.specs.Silence.{isAmong, leaves, silenced}
-use Rattle.choice.specs.Choice.{lowestIdle, wanted, oldest, busyCount}
+use Rattle.candidates.specs.Candidates.{lowestIdle, wanted, oldest, busyCount}
 use Rattle.stealing.specs.Stealing.{overShare, stealFrom}
 use Rattle.allocation.specs.Allocation.{cleared, step5, choice, noteOn}
 use Rattle.instrument.specs.Instrument.{fresh, isRhythm}
@@ -25,10 +25,10 @@ use Rattle.device.specs.Device.{started, heard, byteTaken}
 use Rattle.events.specs.declared.Event.{Event}
 use Rattle.events.specs.declared.Event.the-variants.{Byte, Report}
 use Rattle.events.specs.Events.{taken, reportTaken}
-use Rattle.demand3.specs.Demand3.{isNote, isOf, isEnded, keepMessage, keep, stolenNote, isLoss, isServed, after, Both, Live, begin}
-use Rattle.demand3.proofs.Bytes.{demand-3}
+use Rattle.note_book.specs.Demand3.{isNote, isOf, isEnded, keepMessage, keep, stolenNote, isLoss, isServed, after, Both, Live, begin}
+use Rattle.note_book.proofs.Bytes.{demand-3}
 use Rattle.reports.specs.Reports.{reported}
-use Rattle.demand3.proofs.Witness.{clash, IsGiven, not-lost}
+use Rattle.note_book.proofs.Witness.{clash, IsGiven, not-lost}
 
 -- ---- arithmetic on numerals, apart from the lists: what a tactic finds in reach it computes
 

@@ -1,0 +1,2 @@
+-- The order in the record is the order of assignment.
+pub mod AgeLaw

@@ -1,2 +1,0 @@
--- The order in the record is the order of assignment.
-pub mod Assignment

@@ -1,0 +1,16 @@
+-- `candidates::busy_count` meets its contract, by the count of those sought.
+-- Assumes nothing.
+use Rattle.candidates.specs.Candidates.{busyCount}
+use borrow.Author.Needs.{needs}
+use Rattle.candidates.proofs.busy_count.Statement.{statement}
+use Rattle.candidates.proofs.busy_count.Tie as tie
+
+how-many-requires : tie.Need-how-many-requires
+how-many-requires c κs = search needs
+
+returns : tie.Need-returns
+unfolding busyCount
+returns c = c .how-many .ensures
+
+pub busy-count-spec : {M : Type 1} → statement M
+busy-count-spec = tie.close (tie.spec how-many-requires returns)

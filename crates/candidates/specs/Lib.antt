@@ -1,0 +1,2 @@
+-- The choice of a generator.
+pub mod Candidates

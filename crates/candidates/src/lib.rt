@@ -1,0 +1,139 @@
+// The choice of a generator (document 01, "Note-on", steps 4 and 5), by value, for every value, in one pass each.
+// Assumes nothing.
+ghost use mathlib.Core.Path.{_≡_};
+ghost use mathlib.Core.Bool.{not};
+ghost use Prim.Native.Nat.{_≤_};
+ghost use lib.Dec.{eqb};
+ghost use lib.ListN.{getD};
+ghost use Rattle.loops.specs.Cases.{bit};
+ghost use Rattle.loops.specs.Passes.{total, firstOf, marksOf};
+ghost use Rattle.ages.specs.Ages.{oldestFirst};
+ghost use Rattle.generators.specs.Generators.{generator, at};
+ghost use Rattle.candidates.specs.declared.Want.the-variants.{Releasing};
+ghost use Rattle.candidates.specs.Candidates.{found, lowestIdle, sought, soughtAt, oldest, busyCount};
+use ages::Ages;
+use generators::Generators;
+
+// The generators among which the oldest is looked for.
+pub enum Want {
+    // Those that are releasing: the first to be taken where none is idle.
+    Releasing,
+    // The busy ones of a channel: to be stolen from.
+    BusyOn(u8),
+}
+
+// What a search found.
+pub enum Found {
+    // A generator, by its number.
+    At(u8),
+    // No generator that fits.
+    Nothing,
+}
+
+// Whether a generator is sought: one that is busy on channel c, or a releasing one. In plain numbers, so that a pass asks it of many generators at once.
+fn is_sought(busy: bool, c: u8, state: u8, channel: u8) -> bool
+    ensures { λ r. ⌜ r ≡ sought busy c (generator state channel 0) ⌝ }
+{
+    (busy & (generators::is_busy(state) & (channel == c)))
+        | (!busy & (state == generators::RELEASING))
+}
+
+fn how_many(state: [u8; 64], channel: [u8; 64], busy: bool, c: u8) -> u8
+    ensures { λ r. ⌜ (r ≡ total (λ g. bit (soughtAt busy c state channel g)) 64) × (r ≤ 64) ⌝ }
+{
+    let mut n: u8 = 0;
+    let mut i: usize = 0;
+    while i < 64 {
+        n = n + loops::one(is_sought(busy, c, state[i], channel[i]));
+        i += 1;
+    }
+    n
+}
+
+// A mark for each generator that is sought.
+fn marks(state: [u8; 64], channel: [u8; 64], busy: bool, c: u8) -> [u8; 256]
+    ensures { λ r. ⌜ r ≡ marksOf (soughtAt busy c state channel) ⌝ }
+{
+    let mut out = [0u8; 256];
+    let mut i: usize = 0;
+    while i < 64 {
+        out[i] = loops::one(is_sought(busy, c, state[i], channel[i]));
+        i += 1;
+    }
+    out
+}
+
+// The oldest generator with a mark.
+fn first_marked(order: Ages, marks: [u8; 256]) -> Found
+    ensures { λ r. ⌜ r ≡ found (firstOf (λ g. not (eqb (getD marks g 0) 0)) (oldestFirst order)) ⌝ }
+{
+    let numbers = order.generator;
+    let n = loops::at_most(64, order.count) as usize;
+    let mut i: usize = 0;
+    while i < n {
+        let g = numbers[i];
+        let mark = loops::place(g);
+        if marks[mark] != 0 {
+            return Found::At(g);
+        }
+        i += 1;
+    }
+    Found::Nothing
+}
+
+fn oldest_sought(s: Generators, busy: bool, c: u8) -> Found
+    ensures { λ r. ⌜ r ≡ found (firstOf (λ g. sought busy c (at s g)) (oldestFirst (s .ages))) ⌝ }
+{
+    let state = s.state;
+    let channel = s.channel;
+    let order = s.ages;
+    first_marked(order, marks(state, channel, busy, c))
+}
+
+// Mostly there is none: the order of age is gone through only where there is one.
+fn oldest_releasing(s: Generators) -> Found
+    ensures { λ r. ⌜ r ≡ oldest Releasing s ⌝ }
+{
+    let state = s.state;
+    let channel = s.channel;
+    if how_many(state, channel, false, 0) == 0 {
+        return Found::Nothing;
+    }
+    oldest_sought(s, false, 0)
+}
+
+// Step 4 of a note-on: the idle generator of lowest number among the first p.
+pub fn lowest_idle(s: Generators, p: u8) -> Found
+    ensures { λ r. ⌜ r ≡ lowestIdle s p ⌝ }
+{
+    let state = s.state;
+    let n = loops::at_most(64, p);
+    let mut g: u8 = 0;
+    while g < n {
+        let i = g as usize;
+        if state[i] == generators::IDLE {
+            return Found::At(g);
+        }
+        g += 1;
+    }
+    Found::Nothing
+}
+
+// The oldest generator of those wanted.
+pub fn oldest(s: Generators, w: Want) -> Found
+    ensures { λ r. ⌜ r ≡ oldest w s ⌝ }
+{
+    match w {
+        Want::Releasing => oldest_releasing(s),
+        Want::BusyOn(c) => oldest_sought(s, true, c),
+    }
+}
+
+// How many generators are busy on a channel.
+pub fn busy_count(s: Generators, channel: u8) -> u8
+    ensures { λ r. ⌜ (r ≡ busyCount s channel) × (r ≤ 64) ⌝ }
+{
+    let state = s.state;
+    let channels = s.channel;
+    how_many(state, channels, true, channel)
+}

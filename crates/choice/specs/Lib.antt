@@ -1,2 +1,0 @@
--- The choice of a generator.
-pub mod Choice

@@ -1,0 +1,219 @@
+-- Steps 4 and 5 behind one law: what the choice can be, said of the notes; of the stolen generator also that it is the oldest busy one of the chosen channel.
+-- Assumes nothing.
+use mathlib.Core.Path.{_≡_, refl, sym, ap, _∙_, subst}
+use mathlib.Core.Bool.{Bool, true, false, not, _&&_, _||_}
+use mathlib.Core.List.{List, [], _∷_, _++_}
+use mathlib.Core.Option.{Option, some, none}
+use Prim.Native.Nat.{ℕ, zero, suc, _+_, _≤_, _<_}
+use native.Mathlib.Omega.{arith}
+use borrow.Author.Tests.{ltb-true, ltb-false, lt-ltb, le-ltb, eqb-true, eqb-false, eq-eqb, ne-eqb}
+use lib.Dec.{eqb, ltb}
+use Rattle.loops.specs.Cases.{if_then_else_, bit, atMost}
+use Rattle.loops.specs.Passes.{upTo, total, firstOf, count}
+use Rattle.loops.proofs.Totals.{total-same}
+use Rattle.loops.proofs.Occurs.{occurs, occurs-snoc}
+use Rattle.table.specs.declared.Entry.{Entry}
+use Rattle.table.specs.declared.Table.{Table}
+use Rattle.table.specs.Laws.{Distinct}
+use Rattle.table.specs.Table.{listed}
+use Rattle.shares.specs.declared.Share.{Share}
+use Rattle.shares.specs.declared.Share.the-variants.{Masked, Units}
+use Rattle.shares.specs.Shares.{shares, sum, lookup}
+use Rattle.ages.specs.Ages.{oldestFirst}
+use Rattle.generators.specs.declared.Generators.{Generators}
+use Rattle.generators.specs.Generators.{Generator, generator, at, isIdle, isHeld, isSustained, isReleasing, isBusyOn}
+use Rattle.candidates.specs.declared.Found.{Found}
+use Rattle.candidates.specs.declared.Found.the-variants.{At, Nothing}
+use Rattle.candidates.specs.declared.Want.{Want}
+use Rattle.candidates.specs.declared.Want.the-variants.{Releasing, BusyOn}
+use Rattle.candidates.specs.Candidates.{found, lowestIdle, wanted, oldest, busyCount}
+use Rattle.stealing.specs.Stealing.{counted, overShare, toLoser, stealFrom}
+use Rattle.allocation.specs.declared.Was.{Was}
+use Rattle.allocation.specs.declared.Was.the-variants.{Idle, Release, Stolen}
+use Rattle.allocation.specs.declared.Taken.{Taken}
+use Rattle.allocation.specs.declared.Taken.the-variants.{Took, Refused}
+use Rattle.allocation.specs.Allocation.{isStolen, stolen, stealOf, step5, orElse5, orElse4, choice}
+use Rattle.note_book.specs.Demand3.{Slot, empty, note, isNote, isOf, slotOf, notesOn}
+use Rattle.note_book.proofs.Sees.{Sees, Kind, kind, held, sustained, neither}
+use Rattle.note_book.proofs.Playable.{Playable}
+use Rattle.note_book.proofs.Pigeons.{IsOver, IsListed, withNew, over-some, over-same, pigeons}
+
+-- ---- a search finds what passes if anything does
+
+data Picked (f : ℕ → Bool) (l : List ℕ) : Option ℕ → Type 0 where
+  some-one : (g : ℕ) → f g ≡ true → 1 ≤ occurs g l → Picked f l (some g)
+  no-one : ((g : ℕ) → 1 ≤ occurs g l → f g ≡ false) → Picked f l none
+
+first-law : (f : ℕ → Bool) (l : List ℕ) → Picked f l (firstOf f l)
+unfolding firstOf count
+first-law f [] = no-one (λ g h. absurd (omega arith))
+first-law f (x ∷ l) = go (f x) refl (firstOf f l) (first-law f l)
+  where
+    more : (g : ℕ) → f x ≡ false → (1 ≤ occurs g l → f g ≡ false) → (b : Bool) → eqb x g ≡ b → 1 ≤ bit b + occurs g l → f g ≡ false
+    more g e h true q k = ap f (sym (eqb-true x g q)) ∙ e
+    more g e h false q k = h (omega arith)
+
+    go : (b : Bool) → f x ≡ b → (o : Option ℕ) → Picked f l o → Picked f (x ∷ l) (if b then some x else o)
+    go true e o h = some-one x e (rw (eq-eqb x x refl) (omega arith))
+    go false e o (some-one g t k) = some-one g t (omega arith)
+    go false e o (no-one h) = no-one (λ g k. more g e (h g) (eqb x g) refl k)
+
+abbrev numbers : ℕ → List ℕ
+numbers n = upTo (λ g. g) n
+
+in-numbers : (n g : ℕ) → g < n → 1 ≤ occurs g (numbers n)
+unfolding upTo
+in-numbers zero g h = absurd (omega arith)
+in-numbers (suc n) g h = let s = occurs-snoc g n (numbers n) in go (eqb n g) refl (in-numbers n g) s
+  where
+    go : (b : Bool) → eqb n g ≡ b → (g < n → 1 ≤ occurs g (numbers n)) → occurs g (numbers n ++ (n ∷ [])) ≡ occurs g (numbers n) + bit b → 1 ≤ occurs g (numbers n ++ (n ∷ []))
+    go true e ih s = omega arith
+    go false e ih s = let q = eqb-false n g e in let k = ih (omega arith) in omega arith
+
+numbers-in : (n g : ℕ) → 1 ≤ occurs g (numbers n) → g < n
+unfolding upTo count
+numbers-in zero g h = absurd (omega arith)
+numbers-in (suc n) g h = let s = occurs-snoc g n (numbers n) in go (eqb n g) refl (numbers-in n g) s
+  where
+    go : (b : Bool) → eqb n g ≡ b → (1 ≤ occurs g (numbers n) → g < n) → occurs g (numbers n ++ (n ∷ [])) ≡ occurs g (numbers n) + bit b → g < suc n
+    go true e ih s = let q = eqb-true n g e in omega arith
+    go false e ih s = let k = ih (omega arith) in omega arith
+
+at-most-p : (p : ℕ) → p ≤ 64 → atMost 64 p ≡ p
+at-most-p p h = go (ltb p 64) refl
+  where
+    go : (b : Bool) → ltb p 64 ≡ b → (if b then p else 64) ≡ p
+    go true e = refl
+    go false e = let k = ltb-false p 64 e in omega arith
+
+-- ---- one generator
+
+idle-slot : (x : Generator) → isIdle x ≡ true → slotOf x ≡ empty
+idle-slot x e = rw (eqb-true (x .state) 0 e)
+
+releasing-slot : (x : Generator) → isReleasing x ≡ true → slotOf x ≡ empty
+releasing-slot x e = rw (eqb-true (x .state) 3 e)
+
+busy-slot : (c : ℕ) (x : Generator) → isBusyOn c x ≡ isOf c (slotOf x)
+busy-slot c x = go (kind (x .state))
+  where
+    go : Kind (x .state) → isBusyOn c x ≡ isOf c (slotOf x)
+    go (held e) = rw e
+    go (sustained e) = rw e
+    go (neither p q) = rw (p, q)
+
+releasing-sounds : (x : Generator) → isReleasing x ≡ true → isIdle x ≡ false
+releasing-sounds x e = rw (eqb-true (x .state) 3 e)
+
+of-note : (c : ℕ) (x : Slot) → isOf c x ≡ true → isNote x ≡ true
+of-note c empty e = e
+of-note c (note p d k) e = refl
+
+note-sounds : (x : Generator) → isNote (slotOf x) ≡ true → isIdle x ≡ false
+note-sounds x e = go (isIdle x) refl
+  where
+    go : (b : Bool) → isIdle x ≡ b → b ≡ false
+    go true i = sym e ∙ ap isNote (idle-slot x i)
+    go false i = refl
+
+-- a state from 0 to 3 that is neither idle nor releasing is busy
+rest-notes : (x : Generator) → x .state ≤ 3 → isIdle x ≡ false → isReleasing x ≡ false → isNote (slotOf x) ≡ true
+rest-notes x h i r = go (kind (x .state))
+  where
+    go : Kind (x .state) → isNote (slotOf x) ≡ true
+    go (held e) = rw e
+    go (sustained e) = rw e
+    go (neither p q) =
+        let a = eqb-false (x .state) 0 i in
+        let b = eqb-false (x .state) 1 p in
+        let c = eqb-false (x .state) 2 q in
+        let d = eqb-false (x .state) 3 r in
+        absurd (omega arith)
+
+over-none : (x : Share) → IsOver x 0 → ⊥
+over-none Masked v = v
+over-none (Units u) v = omega arith
+
+-- ---- the choice
+
+abbrev pub Full : ℕ → (ℕ → Slot) → Type 0
+Full p n = (g : ℕ) → g < p → isNote (n g) ≡ true
+
+pub data Chosen (p : ℕ) (n : ℕ → Slot) (s : Generators) (q : List Entry) (c : ℕ) : Taken → Type 0 where
+  free : (g : ℕ) (w : Was) → isStolen w ≡ false → g < p → n g ≡ empty → Chosen p n s q c (Took g w)
+  theft : (g d : ℕ) → Full p n → g < p → isOf d (n g) ≡ true → IsOver (lookup d q) (withNew p n c d) → oldest (BusyOn d) s ≡ At g → Chosen p n s q c (Took g Stolen)
+  shut : Full p n → IsOver (lookup c q) (withNew p n c c) → notesOn p c n ≡ 0 → Chosen p n s q c (Refused 11)
+
+pub total-cut : (f : ℕ → ℕ) (m n : ℕ) → m ≤ n → ((i : ℕ) → m ≤ i → f i ≡ 0) → total f n ≡ total f m
+unfolding total
+total-cut f m zero h z = let e : m ≡ 0 = omega arith in rw e
+total-cut f m (suc n) h z = go (ltb n m) refl (total-cut f m n)
+  where
+    go : (b : Bool) → ltb n m ≡ b → (m ≤ n → ((i : ℕ) → m ≤ i → f i ≡ 0) → total f n ≡ total f m) → total f (suc n) ≡ total f m
+    go true e ih = let k = ltb-true n m e in let e : m ≡ suc n = omega arith in rw e
+    go false e ih = let k : m ≤ n = ltb-false n m e in let j = ih k z in let y = z n k in omega arith
+
+module _ (p : ℕ) (n : ℕ → Slot) (s : Generators) (o : Playable p s) (e : Sees n s) where
+  below : (g : ℕ) → isIdle (at s g) ≡ false → g < p
+  below g i = go (ltb g p) refl
+    where
+      go : (b : Bool) → ltb g p ≡ b → g < p
+      go true t = ltb-true g p t
+      go false t = absurd (let z : _≡_ {A = Bool} true false = sym (o .above g (ltb-false g p t)) ∙ i in let y : _≡_ {A = ℕ} 0 1 = cc in omega arith)
+
+  -- the device counts the notes of the book
+  pub count-notes : (c : ℕ) → busyCount s c ≡ notesOn p c n
+  unfolding busyCount
+  count-notes c =
+      total-same (λ (g : ℕ). bit (isBusyOn c (at s g))) (λ (g : ℕ). bit (isOf c (n g))) 64 (λ g k. ap bit (busy-slot c (at s g) ∙ ap (isOf c) (sym (e g))))
+      ∙ total-cut (λ (g : ℕ). bit (isOf c (n g))) p 64 (o .few) (λ g k. ap (λ (x : Slot). bit (isOf c x)) (e g ∙ idle-slot (at s g) (o .above g k)))
+
+  -- what stands in the order of age is what sounds
+  in-order : (g : ℕ) → isIdle (at s g) ≡ false → 1 ≤ occurs g (oldestFirst (s .ages))
+  in-order g i = rw (o .ordered .once g, i) (omega arith)
+
+  module _ (q : List Entry) (c : ℕ) (u : Distinct q) (t : sum q ≤ p) (l : listed c q ≡ true) (h : (g : ℕ) → IsListed q (n g)) where
+    -- the chosen channel has a busy generator, or is the new note's own
+    victim : Full p n → (d : ℕ) → IsOver (lookup d q) (withNew p n c d) → Chosen p n s q c (stolen (oldest (BusyOn d) s))
+    unfolding oldest wanted total
+    victim f d v = go (firstOf (λ g. isBusyOn d (at s g)) (oldestFirst (s .ages))) refl (first-law (λ g. isBusyOn d (at s g)) (oldestFirst (s .ages)))
+      where
+        own : (m : ℕ) (b : Bool) → eqb d c ≡ b → m ≡ 0 → IsOver (lookup d q) (m + bit b) → d ≡ c
+        own m true eb z v = eqb-true d c eb
+        own m false eb z v = absurd (over-none (lookup d q) (rw z at v))
+
+        unheard : ((g : ℕ) → 1 ≤ occurs g (oldestFirst (s .ages)) → isBusyOn d (at s g) ≡ false) → (g : ℕ) → (b : Bool) → isIdle (at s g) ≡ b → isOf d (n g) ≡ false
+        unheard z g true i = ap (isOf d) (e g ∙ idle-slot (at s g) i)
+        unheard z g false i = ap (isOf d) (e g) ∙ sym (busy-slot d (at s g)) ∙ z g (in-order g i)
+
+        go : (x : Option ℕ) → firstOf (λ g. isBusyOn d (at s g)) (oldestFirst (s .ages)) ≡ x → Picked (λ g. isBusyOn d (at s g)) (oldestFirst (s .ages)) x → Chosen p n s q c (stolen (found x))
+        go x r (some-one g b k) =
+            let y : isOf d (n g) ≡ true = ap (isOf d) (e g) ∙ sym (busy-slot d (at s g)) ∙ b in
+            theft g d f (below g (note-sounds (at s g) (ap isNote (sym (e g)) ∙ of-note d (n g) y))) y v (ap found r)
+        go x r (no-one z) =
+            let m : notesOn p d n ≡ 0 = total-cut (λ (g : ℕ). bit (isOf d (n g))) 0 p (omega arith) (λ g k. ap bit (unheard z g (isIdle (at s g)) refl)) in
+            let h : d ≡ c = own (notesOn p d n) (eqb d c) refl m v in
+            shut f (subst (λ (y : ℕ). IsOver (lookup y q) (withNew p n c y)) h v) (subst (λ (y : ℕ). notesOn p y n ≡ 0) h m)
+
+    rob : Full p n → (x : Option ℕ) → overShare (withNew p n c) q ≡ x → Chosen p n s q c (stealOf s (toLoser x))
+    rob f none r = absurd (pigeons p n q c f h l t r)
+    rob f (some d) r = victim f d (over-some (withNew p n c) q d u r)
+
+    pub chosen : (m : Table) → shares p m ≡ q → Chosen p n s q c (choice s m p c)
+    unfolding choice lowestIdle oldest wanted step5 stealFrom
+    chosen m r = rw (at-most-p p (o .few)) (go (firstOf (λ g. isIdle (at s g)) (numbers p)) (first-law (λ g. isIdle (at s g)) (numbers p)))
+      where
+        steal : Full p n → Chosen p n s q c (stealOf s (toLoser (overShare (counted s c) (shares p m))))
+        steal f = rw (r, over-same (counted s c) (withNew p n c) q (λ d. ap (λ (k : ℕ). k + bit (eqb d c)) (count-notes d))) (rob f (overShare (withNew p n c) q) refl)
+
+        full : ((g : ℕ) → 1 ≤ occurs g (numbers p) → isIdle (at s g) ≡ false) → ((g : ℕ) → 1 ≤ occurs g (oldestFirst (s .ages)) → isReleasing (at s g) ≡ false) → Full p n
+        full a b g k = let i = a g (in-numbers p g k) in ap isNote (e g) ∙ rest-notes (at s g) (o .states g) i (b g (in-order g i))
+
+        next : ((g : ℕ) → 1 ≤ occurs g (numbers p) → isIdle (at s g) ≡ false) → (x : Option ℕ) → Picked (λ g. isReleasing (at s g)) (oldestFirst (s .ages)) x
+            → Chosen p n s q c (orElse5 s m p c (found x))
+        next a x (some-one g b k) = free g Release refl (below g (releasing-sounds (at s g) b)) (e g ∙ releasing-slot (at s g) b)
+        next a x (no-one b) = steal (full a b)
+
+        go : (x : Option ℕ) → Picked (λ g. isIdle (at s g)) (numbers p) x → Chosen p n s q c (orElse4 s m p c (found x))
+        go x (some-one g b k) = free g Idle refl (numbers-in p g k) (e g ∙ idle-slot (at s g) b)
+        go x (no-one a) = next a (firstOf (λ g. isReleasing (at s g)) (oldestFirst (s .ages))) (first-law (λ g. isReleasing (at s g)) (oldestFirst (s .ages)))

@@ -1,0 +1,121 @@
+-- Demand 3 bites. First its words, for any book and answer: what keeps within a share, what ends a run, what is served, robbed and lost is no less than the paper
+-- says; a claim emptied behind its name would not give these facts. Then the end of any list. Short lists in which `demand-3` alone, not the device, says what becomes of a
+-- note stand in crate `witnesses`, so that they are computed once and not for each wrong answer.
+-- Assumes nothing.
+use mathlib.Core.Path.{_≡_, refl, sym, ap, _∙_}
+use mathlib.Core.Bool.{Bool, true, false, not, _&&_, _||_}
+use mathlib.Core.List.{List, [], _∷_, _++_}
+use Prim.Native.Nat.{ℕ, _≤_, _<_}
+use native.Mathlib.Omega.{arith}
+use borrow.Author.Tests.{eqb-true}
+use lib.Dec.{eqb}
+use Rattle.table.specs.declared.Entry.{Entry}
+use Rattle.shares.specs.declared.Share.the-variants.{Units}
+use Rattle.shares.specs.Shares.{isMasked}
+use Rattle.generators.specs.Generators.{at, isIdle}
+use Rattle.allocation.specs.declared.Was.{Was}
+use Rattle.allocation.specs.declared.Was.the-variants.{Stolen}
+use Rattle.allocation.specs.Allocation.{isStolen}
+use Rattle.playing.specs.declared.Answer.{Answer}
+use Rattle.playing.specs.declared.Answer.the-variants.{Nothing, Done, Note, NoNote, Number}
+use Rattle.events.specs.declared.Event.{Event}
+use Rattle.note_book.specs.Demand3.{Book, isNote, isOf, isEnded, remaining, Heard, nothing, message, newTable, reset, report, IsWithin, isLoss, isServed, Fair, Safe, IsInRun, System, after, IsExact, Always, Each, IsRun, StaysWithin, Demand3, Live, begin}
+use Rattle.note_book.specs.Demand3 as of-book
+use Rattle.note_book.proofs.Bytes.{demand-3}
+
+-- ---- the words, whatever the device
+
+pub clash : {A : Type 0} → _≡_ {A = Bool} false true → A
+clash e = absurd (let z : _≡_ {A = ℕ} 0 1 = cc in omega arith)
+
+-- all of the share may be used
+pub whole-share : (u n : ℕ) → n ≤ u → IsWithin (Units u) n
+whole-share u n h = h
+
+-- an accepted MIP message and an accepted reset end a run, and nothing else does
+pub in-run : (h : Heard) → ((t : List Entry) → h ≡ newTable t → ⊥) → (h ≡ reset → ⊥) → IsInRun h
+in-run nothing t r = tt
+in-run (message m) t r = tt
+in-run (newTable x) t r = absurd (t x refl)
+in-run reset t r = absurd (r refl)
+in-run (report g) t r = tt
+
+-- a run is any part of the list, with what came before it
+pub run-anywhere : (S : System) (s : S .State) (l : List (S .Event)) → Demand3 S s l → (pre run post : List (S .Event)) → l ≡ pre ++ (run ++ post) → IsRun S (after S s pre) run
+    → (c : ℕ) → StaysWithin S c (after S s pre) run → Each S (Safe c) (after S s pre) run
+run-anywhere S s l d = d .shared
+
+-- who is served is answered note, with channel and key
+pub served-note : (b : Book) (c k : ℕ) (a : Answer) → Safe c b a c k → (g : ℕ) × ((w : Was) × (a ≡ Note c k g w))
+served-note b c k a s = go a (s .0 refl)
+  where
+    same : (x y g : ℕ) (w : Was) (p : Bool) → eqb x c ≡ p → (q : Bool) → eqb y k ≡ q → p && q ≡ true → (h : ℕ) × ((v : Was) × (Note x y g w ≡ Note c k h v))
+    same x y g w true p true q e = (g, (w, rw (eqb-true x c p, eqb-true y k q)))
+    same x y g w true p false q e = clash e
+    same x y g w false p q r e = clash e
+
+    go : (a : Answer) → isServed c k a ≡ true → (g : ℕ) × ((w : Was) × (a ≡ Note c k g w))
+    go (Note x y g w) e = same x y g w (eqb x c) refl (eqb y k) refl e
+    go Nothing e = clash e
+    go Done e = clash e
+    go (NoNote n x y) e = clash e
+    go (Number n) e = clash e
+
+-- where a note of channel c still stands, no other may be put: channel c would be robbed
+pub robbed-unsafe : (b : Book) (c d k g : ℕ) (w : Was) → isOf c (remaining b d k g) ≡ true → Safe c b (Note d k g w) d k → ⊥
+robbed-unsafe b c d k g w e s = clash (sym (s .1) ∙ e)
+
+-- a loss is fair only where every generator had a note, and none that the new one ends
+pub fair-full : (b : Book) (a : Answer) (c k : ℕ) → Fair b a c k → isLoss b c k a ≡ true → (g : ℕ) → g < b .polyphony
+    → (isNote (b .notes g) ≡ true) × (isEnded (of-book.isRhythm b c) c k (b .notes g) ≡ false)
+fair-full b a c k f = f
+
+-- the losses: "answers stolen"
+pub stolen-lost : (b : Book) (c k x y g : ℕ) → isLoss b c k (Note x y g Stolen) ≡ true
+stolen-lost b c k x y g = refl
+
+-- "makes a note leave as stolen", whatever the answer calls it
+pub leaving-lost : (b : Book) (c k x y g : ℕ) (w : Was) → isNote (remaining b c k g) ≡ true → isLoss b c k (Note x y g w) ≡ true
+leaving-lost b c k x y g w e = go (isStolen w) e
+  where
+    go : (p : Bool) → isNote (remaining b c k g) ≡ true → p || isNote (remaining b c k g) ≡ true
+    go true e = refl
+    go false e = e
+
+-- on an unmasked channel every answer but note
+pub turned-lost : (b : Book) (c k : ℕ) (a : Answer) → isMasked (of-book.shareOf b c) ≡ false → ((x y g : ℕ) (w : Was) → a ≡ Note x y g w → ⊥) → isLoss b c k a ≡ true
+turned-lost b c k (Note x y g w) u n = absurd (n x y g w refl)
+turned-lost b c k Nothing u n = ap not u
+turned-lost b c k Done u n = ap not u
+turned-lost b c k (NoNote m x y) u n = ap not u
+turned-lost b c k (Number m) u n = ap not u
+
+-- where nothing is lost on an unmasked channel, the answer is note, and not stolen
+abbrev pub IsGiven : Answer → Type 0
+IsGiven a = (x : ℕ) × ((y : ℕ) × ((g : ℕ) × ((w : Was) × ((a ≡ Note x y g w) × (isStolen w ≡ false)))))
+
+pub not-lost : (b : Book) (c k : ℕ) (a : Answer) → isMasked (of-book.shareOf b c) ≡ false → isLoss b c k a ≡ false → IsGiven a
+not-lost b c k (Note x y g w) u e = (x, (y, (g, (w, (refl, go (isStolen w) e)))))
+  where
+    go : (p : Bool) → p || isNote (remaining b c k g) ≡ false → p ≡ false
+    go true e = e
+    go false e = refl
+not-lost b c k Nothing u e = clash (sym e ∙ ap not u)
+not-lost b c k Done u e = clash (sym e ∙ ap not u)
+not-lost b c k (NoNote n x y) u e = clash (sym e ∙ ap not u)
+not-lost b c k (Number n) u e = clash (sym e ∙ ap not u)
+
+-- ---- the end of any list
+
+exact-after : (S : System) (s : S .State) (l : List (S .Event)) → Always S s l → IsExact S (after S s l)
+unfolding after
+exact-after S s [] a = a
+exact-after S s (e ∷ l) a = exact-after S (S .next s e) l (a .1)
+
+-- no generator from P on sounds
+beyond-idle : (S : System) (s : S .State) → IsExact S s → (g : ℕ) → S .book s .polyphony ≤ g → isIdle (at (S .instrument s .generators) g) ≡ true
+beyond-idle S s e = e .beyond
+
+-- whatever was played; P is what the book took from the start
+pub none-beyond : (p id : ℕ) (l : List Event) (g : ℕ) → after Live (begin p id) l .book .polyphony ≤ g → isIdle (at (after Live (begin p id) l .device .instrument .generators) g) ≡ true
+none-beyond p id l = beyond-idle Live (after Live (begin p id) l) (exact-after Live (begin p id) l (demand-3 p id l .exact))
