@@ -1,5 +1,4 @@
--- Document 01, "The device record": "A generator is older than another if its assignment came earlier, in a history of any length. The record holds age
--- only as this order among the sounding generators."
+-- R1.6, R1.7: age, as the order in which the sounding generators were assigned.
 use Prim.Native.Nat.{ℕ, _+_}
 use mathlib.Core.Bool.{Bool, not}
 use mathlib.Core.List.{List, [], _∷_, _++_}
@@ -21,7 +20,7 @@ agesOf l = record { count = length (take 64 l); generator = padded 64 0 l }
 abbrev pub unmarked : List ℕ → ℕ → Bool
 unmarked marks g = eqb (getD marks g 0) 0
 
--- the marked generators are no longer sounding; the others keep their order
+-- R1.7: the marked generators are no longer sounding; the others keep their order
 unfoldable pub without : Ages → List ℕ → Ages
 without a marks = agesOf (filterBy (unmarked marks) (oldestFirst a))
 
@@ -35,6 +34,6 @@ pushed a g =
 abbrev pub otherThan : ℕ → ℕ → Bool
 otherThan g h = not (eqb h g)
 
--- generator g is assigned anew: it is the newest, and the others keep their order
+-- R5.11: generator g is assigned anew, and is the newest; R1.6: the others keep their order
 unfoldable pub newest : Ages → ℕ → Ages
 newest a g = if ltb g 64 then agesOf (filterBy (otherThan g) (oldestFirst a) ++ (g ∷ [])) else a

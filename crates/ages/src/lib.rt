@@ -1,5 +1,5 @@
-// The order of assignment among the sounding generators (document 01, "The device record"): a list of their numbers, the oldest first.
-// A list and no counter, so that no history is too long for it. By value, for every value. Assumes nothing.
+// The order of assignment among the sounding generators (R1.6, R1.7): a list of their numbers, the oldest first. A
+// list and no counter, so that no history is too long for it. By value, for every value. Assumes nothing.
 ghost use mathlib.Core.Path.{_≡_};
 ghost use Rattle.ages.specs.Ages.{without, pushed, newest};
 

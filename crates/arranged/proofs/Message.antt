@@ -74,7 +74,7 @@ values-back [] (v ∷ vs) h = absurd (omega arith)
 values-back (c ∷ l) [] h = absurd (omega arith)
 values-back (c ∷ l) (v ∷ vs) h = ap (λ (r : List ℕ). v ∷ r) (values-back l vs (omega arith))
 
--- "Our reader must take every message so written": whatever it answered last, and whatever its record, of any P, own ID, table, notes and parser
+-- R14.7: whatever the device answered last, and whatever its record, of any P, own ID, table, notes and parser
 pub given-back : ReaderTakes
 given-back order log h o =
     let w = whole order log h in

@@ -33,7 +33,7 @@ valuesOf order log = values order (records fresh (linesOf log))
 abbrev pub recordAfter : List ℕ → ℕ → Device
 recordAfter log j = getD (records fresh (linesOf log)) j fresh
 
--- "Our reader must take every message so written and give back the same order and values": what it answers to the last byte, and its table then
+-- R14.7: what a device answers to the last byte of a message, and its table then
 pub record GivenBack (order log : List ℕ) (o : Output) : Type 0 where
   pub answer : o .answer ≡ answer.Done
   pub same-order : map (λ (e : Entry). e .channel) (entriesOf (o .device .instrument .table)) ≡ order
@@ -45,8 +45,7 @@ ReaderTakes = (order log : List ℕ) → message order log .number ≡ 0 → (o 
 
 -- ---- the values
 
--- "the largest number of busy generators ever seen after a line ..., so that with any value above 0 made one lower some line of the log would exceed it":
--- the value at place k of the order
+-- R14.8, of the value at place k of the order: no line exceeds it, and with one less some line would
 pub record Tight (order log : List ℕ) (k : ℕ) : Type 0 where
   pub enough : (j : ℕ) → j < length (linesOf log) → joint order k (recordAfter log j) ≤ getD (valuesOf order log) k 0
   pub needed : 0 < getD (valuesOf order log) k 0
@@ -57,7 +56,7 @@ AllTight = (order log : List ℕ) (k : ℕ) → k < 16 → Tight order log k
 
 -- ---- the numbers
 
--- "beside each of the three numbers stand 38 zero bytes in place of the message"
+-- R14.9: beside a number stand 38 zeros
 abbrev pub ZerosBeside : Type 0
 ZerosBeside = (order log : List ℕ) → (message order log .number ≡ 0 → ⊥) → message order log .bytes ≡ replicate 38 0
 
@@ -65,7 +64,8 @@ ZerosBeside = (order log : List ℕ) → (message order log .number ≡ 0 → �
 abbrev pub recordBefore : List ℕ → ℕ → Device
 recordBefore log j = getD (fresh ∷ records fresh (linesOf log)) j fresh
 
--- "answers with a number below 11 or with 13 are passed over ... or number 11 falls": in a log no other number falls, 12 least of all
+-- R14.2, R14.6: numbers below 11 and 13 are passed over and 11 ends the log; no other number falls in a log, 12 least
+-- of all
 abbrev pub NoOtherNumber : Type 0
 NoOtherNumber =
     (log : List ℕ) (j : ℕ) (e : Event) (n : ℕ) → j < length (linesOf log) → eventOf (getD (linesOf log) j []) ≡ some e
@@ -77,6 +77,6 @@ abbrev pub heardParts : Run → List (List ℕ) → Run
 heardParts r [] = r
 heardParts r (p ∷ ps) = heardParts (heard r p) ps
 
--- however a log is cut into parts, they come to the message of the whole
+-- R14.10: however a log is cut into parts, they come to the message of the whole
 abbrev pub PartsMakeNoDifference : Type 0
 PartsMakeNoDifference = (order : List ℕ) (ps : List (List ℕ)) → finished (heardParts (begun order) ps) ≡ message order (joined ps)

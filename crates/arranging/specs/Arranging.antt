@@ -1,5 +1,4 @@
--- Document 02, ticket 1: a log of a song, "Run on a fresh device with P 64 and ID 0, ... shall yield the 38-byte message (device byte 7F) for a given order of all
--- sixteen channels".
+-- The MIP message of a song's log (section 14 of docs/RULES.md), for a log as a whole.
 -- Assumes nothing.
 use Prim.Native.Nat.{ℕ, _+_, _-_}
 use mathlib.Core.Bool.{Bool, true, false, _&&_, _||_}
@@ -30,7 +29,7 @@ use Rattle.arranging.specs.declared.Written.{Written}
 
 -- ---- what a line comes to
 
--- "Run on a fresh device with P 64 and ID 0"
+-- R14.2: the device that the log is played on
 abbrev pub fresh : Device
 fresh = started 64 0 .device
 
@@ -41,12 +40,12 @@ isSysEx completed.Cut = false
 isSysEx (completed.Message s a b) = false
 isSysEx completed.SysEx = true
 
--- "a MIP message with device byte 7F or 0 ends, accepted or not": its bytes are those of the parser that the F7 finds
+-- R14.6: a MIP message for 7F or 0 ends, accepted or not: its bytes are those of the parser that the F7 finds
 unfoldable pub endsMip : Device → Event → Bool
 endsMip d (Byte b) = isSysEx (split (d .parser) b .completed) && isMip 0 (body (d .parser))
 endsMip d (Report g) = false
 
--- "a note is stolen or number 11 falls"
+-- R14.6: a note is stolen, or number 11 falls
 unfoldable pub losesNote : Answer → Bool
 losesNote answer.Nothing = false
 losesNote answer.Done = false
@@ -54,7 +53,7 @@ losesNote (answer.Note c k g w) = isStolen w
 losesNote (answer.NoNote n c k) = eqb n 11
 losesNote (answer.Number n) = eqb n 11
 
--- number 17 falls at the line of this event; any other answer is passed over, "the device going on as document 01 says"
+-- R8.17: number 17 falls at the line of this event; R14.2: any other answer is passed over
 unfoldable pub spoils : Device → Event → Bool
 spoils d e = endsMip d e || losesNote (taken d e .answer)
 
@@ -65,7 +64,7 @@ unfoldable pub atLine : Device → (Device → Option ℕ) → Option Event → 
 atLine d behind none = some 15
 atLine d behind (some e) = if spoils d e then some 17 else behind (taken d e .device)
 
--- the number that a log's lines give, if any; "of 15 and 17 the earlier line decides"
+-- R8.15, R8.17: the number that a log's lines give, if any; R14.6: the earlier line decides
 unfoldable pub fault : Device → List (List ℕ) → Option ℕ
 fault d [] = none
 fault d (l ∷ ls) = atLine d (λ r. fault r ls) (eventOf l)
@@ -95,11 +94,11 @@ unfoldable pub largest : {A : Type 0} → (A → ℕ) → List A → ℕ
 largest f [] = 0
 largest f (x ∷ l) = larger (f x) (largest f l)
 
--- the busy generators of a record "on that channel and those before it": the channel at place k of the order, from 0
+-- R14.5: the busy generators of a record on the channel at place k of the order, from 0, and on those before it
 abbrev pub joint : List ℕ → ℕ → Device → ℕ
 joint order k d = jointCount order (d .instrument .generators) k
 
--- "Each value is the largest number of busy generators ever seen after a line on that channel and those before it"
+-- R14.5: the largest such number after any line
 unfoldable pub values : List ℕ → List Device → List ℕ
 values order ds = upTo (λ k. largest (joint order k) ds) 16
 
@@ -111,12 +110,12 @@ listing [] vs = []
 listing (c ∷ l) [] = []
 listing (c ∷ l) (v ∷ vs) = entry c v ∷ listing l vs
 
--- "pairs mm vv": mm is the channel minus 1, vv its value
+-- R3.1: a pair is the channel minus 1 and its value
 unfoldable pub pairBytes : List Entry → List ℕ
 pairBytes [] = []
 pairBytes (e ∷ l) = (e .channel - 1) ∷ (e .value) ∷ pairBytes l
 
--- "F0 7F d 0B 01, then pairs mm vv, then F7", with d 7F
+-- R14.4: the message, for every device: d is 7F
 unfoldable pub mipMessage : List Entry → List ℕ
 mipMessage l = 0xF0 ∷ 0x7F ∷ 0x7F ∷ 0x0B ∷ 0x01 ∷ (pairBytes l ++ (0xF7 ∷ []))
 
@@ -127,7 +126,7 @@ told n = atMost 18446744073709551615 n
 abbrev pub whole : List ℕ → List ℕ → ℕ → Written
 whole order most line = record { line = line; number = 0; bytes = mipMessage (listing order most) }
 
--- "beside each of the three numbers stand 38 zero bytes in place of the message"
+-- R14.9: beside a number stand 38 zeros
 abbrev pub refused : ℕ → ℕ → Written
 refused n line = record { line = line; number = n; bytes = replicate 38 0 }
 
@@ -135,7 +134,7 @@ abbrev pub writtenBy : List ℕ → List Device → ℕ → Option ℕ → Writt
 writtenBy order ds line none = whole order (values order ds) line
 writtenBy order ds line (some n) = refused n line
 
--- the message of a log; "16, an order that is not all sixteen channels once, looked at before the log"
+-- the message of a log; R8.16: the order is looked at before the log
 unfoldable pub message : List ℕ → List ℕ → Written
 message order log =
     if isOrder order

@@ -1,5 +1,6 @@
-// The MIP message of a song's log (document 02, ticket 1), by value, for an order and a log of any bytes; the log in parts of any length, so that it may be
-// longer than memory. What holds of every message that is written is stated and proved in crate `arranged`. Assumes nothing.
+// The MIP message of a song's log (R14.1 to R14.6, R14.9), by value, for an order and a log of any bytes; the log in
+// parts of any length (R14.10), so that it may be longer than memory. What holds of every message that is written is
+// stated and proved in crate `arranged`. Assumes nothing.
 ghost use mathlib.Core.Path.{_≡_};
 ghost use mathlib.Core.Bool.{_&&_, not};
 ghost use Prim.Native.Nat.{_<_};

@@ -1,4 +1,4 @@
--- Document 01: the device by its bytes, from its start on.
+-- The device by its bytes, from its start on.
 use Prim.Native.Nat.{ℕ}
 use mathlib.Core.Bool.{Bool, _||_}
 use lib.Dec.{ltb}
@@ -19,14 +19,15 @@ use Rattle.exclusive.specs.Exclusive.{answerOf, exclusive}
 use Rattle.device.specs.declared.Device.{Device}
 use Rattle.device.specs.declared.Output.{Output}
 
--- the record of a start with P and the own ID
+-- R1.10: the record of a start with P and the own ID
 abbrev pub freshDevice : ℕ → ℕ → Device
 freshDevice p id = record { parser = quiet; instrument = fresh p id }
 
 abbrev pub freshOutput : Answer → ℕ → ℕ → Output
 freshOutput a p id = record { answer = a; device = freshDevice p id }
 
--- numbers 1 and 2: "P not 1 to 64", "ID above 126"; both leave the "fresh record, P 1, ID 0"
+-- R8.1, R8.2: a wrong P, then a wrong own ID; both leave the fresh record of P 1 and own ID 0. R1.1, R1.2: what is
+-- right
 abbrev pub isWrongP : ℕ → Bool
 isWrongP p = ltb p 1 || ltb 64 p
 
@@ -36,7 +37,8 @@ started p id =
     if ltb 126 id then freshOutput (answer.Number 2) 1 0 else
     freshOutput answer.Done p id
 
--- what a byte completed; p is the parser that it found
+-- what a byte completed; p is the parser that it found. R4.12: a channel message is played; R4.13: nothing completed
+-- is answered none; R4.9, R4.10: numbers 4 and 3
 unfoldable pub heard : Instrument → Parser → Completed → Reply
 heard i p Nothing = replied (answerOf (splitting.numberOf Nothing)) i
 heard i p Stray = replied (answerOf (splitting.numberOf Stray)) i

@@ -1,5 +1,5 @@
--- The table of drums holds the groups of document 01: for each key value, the first row of that key has the key's group, and a key without a row has none.
--- One test computed over all 256 key values. Assumes nothing.
+-- The table of drums holds the groups of R5.4: for each key value, the first row of that key has the key's group, and
+-- a key without a row has none. One test computed over all 256 key values. Assumes nothing.
 use mathlib.Core.Path.{_≡_, sym, _∙_}
 use mathlib.Core.Bool.{Bool}
 use mathlib.Core.List.{List, [], _∷_}

@@ -1,11 +1,11 @@
--- Document 01, "Note-on", step 3: the exclusive groups of the rhythm channel.
+-- The exclusive groups of a rhythm channel (R5.3, R5.4).
 use Prim.Native.Nat.{ℕ, _+_}
 use mathlib.Core.Bool.{Bool, false, _&&_, _||_, not}
 use mathlib.Core.List.{List, [], _∷_}
 use lib.Dec.{eqb}
 use Rattle.loops.specs.Cases.{if_then_else_}
 
--- "The groups are 42 44 46, 71 72, 73 74, 78 79, 80 81"
+-- R5.4: the groups
 abbrev pub groups : List (List ℕ)
 groups =
     (42 ∷ 44 ∷ 46 ∷ [])
@@ -28,6 +28,6 @@ placeFrom k n (g ∷ l) = if isIn k g then n else placeFrom k (n + 1) l
 unfoldable pub groupOf : ℕ → ℕ
 groupOf k = placeFrom k 1 groups
 
--- "another key of the same exclusive group"
+-- R5.3: key j is another one of the group of key k
 unfoldable pub excludes : ℕ → ℕ → Bool
 excludes k j = not (eqb j k) && (not (eqb (groupOf k) 0) && eqb (groupOf j) (groupOf k))

@@ -1,5 +1,4 @@
-// Which drums exclude each other (document 01, "Note-on", step 3), for every key value.
-// Assumes nothing.
+// Which drums exclude each other (R5.3, R5.4), for every key value. Assumes nothing.
 ghost use mathlib.Core.Path.{_≡_};
 ghost use Rattle.drums.specs.Drums.{groupOf, excludes};
 

@@ -1,4 +1,4 @@
--- Document 01: what reaches the device, a MIDI byte or the report of an ended generator.
+-- What reaches the device, a MIDI byte or the report of an ended generator.
 use Prim.Native.Nat.{ℕ}
 use Rattle.device.specs.declared.Device.{Device}
 use Rattle.device.specs.declared.Output.{Output}
@@ -7,7 +7,7 @@ use Rattle.reports.specs.Reports.{reported}
 use Rattle.events.specs.declared.Event.{Event}
 use Rattle.events.specs.declared.Event.the-variants.{Byte, Report}
 
--- a report leaves the parser as it is
+-- R7.2: a report leaves the parser as it is
 unfoldable pub reportTaken : Device → ℕ → Output
 reportTaken d g = outputOf (d .parser) (reported (d .instrument) g)
 

@@ -1,4 +1,5 @@
--- P1 to P9 in one proof. The definitions compute to what the paper says, and where P is a variable (P3, P4) to the one comparison that P and the value decide.
+-- P1 to P9 in one proof. The definitions compute to what is written beside them, and where P is a variable (P3, P4)
+-- to the one comparison that P and the value decide.
 -- Assumes nothing.
 use mathlib.Core.Path.{_≡_, refl, ap, ap₂, _∙_}
 use mathlib.Core.Bool.{Bool, true, false, _||_}

@@ -1,4 +1,5 @@
--- Document 01, "Paper examples": P1 to P9 as one list of what the definitions say, and one of what the paper says. All go through the bytes, from a start on.
+-- P1 to P9 of docs/RULES.md as one list of what the definitions say, and one of what is written there. All go through
+-- the bytes, from a start on.
 use Prim.Native.Nat.{ℕ, _+_}
 use mathlib.Core.List.{List, [], _∷_, _++_}
 use lib.ListN.{replicate}
@@ -40,7 +41,7 @@ pub data Seen : Type 0 where
 abbrev pub mip : List ℕ → List ℕ
 mip l = 0xF0 ∷ 0x7F ∷ 0x7F ∷ 0x0B ∷ 0x01 ∷ (l ++ (0xF7 ∷ []))
 
--- P1, P2: "P 10, values 3, 7, 10 for channels 1 to 3, busy 2, 6, 2"
+-- P1, P2: channels 1, 2, 3 with values 3, 7, 10 of P 10, and 2, 6, 2 of their generators busy
 abbrev pub crowd : List ℕ
 crowd =
     mip (0x00 ∷ 3 ∷ 0x01 ∷ 7 ∷ 0x02 ∷ 10 ∷ [])
@@ -101,28 +102,28 @@ P9 = answered (fresh 1) (mip sixteen) ++ answered (fresh 1) (mip (replicate 33 0
 unfoldable pub computed : ℕ → List Seen
 computed p = P1 ++ P2 ++ P3 p ++ P4 p ++ P5 ++ P6 ++ P7 ++ P8 ++ P9
 
--- what the paper says
+-- what is written
 unfoldable pub printed : List Seen
 printed =
-    -- P1: "A note on 3 steals from 2", whose oldest note, key 60, is on generator 2
+    -- P1: channel 2 loses, whose oldest note, key 60, is on generator 2
     generator (GeneratorIs 1 2 60)
     ∷ answer (Note 3 62 2 Stolen)
-    -- P2: "a further note on 3 steals from 3", whose oldest is on 8
+    -- P2: channel 3 itself loses, whose oldest is on 8
     ∷ generator (GeneratorIs 1 3 60)
     ∷ answer (Note 3 63 8 Stolen)
-    -- "P3: value P is unmasked; P4: P + 1 is masked. P5: P 10, values 5, 5 give shares 5, 0"
+    -- P3, P4: value P, and P + 1; P5: the shares of values 5, 5
     ∷ mask IsUnmasked
     ∷ mask IsMasked
     ∷ share (ShareIs 5)
     ∷ share (ShareIs 0)
-    -- P6: "steals from channel 1"; P7: "number 11"
+    -- P6: channel 1 loses; P7: number 11
     ∷ generator (GeneratorIs 1 1 60)
     ∷ answer (Note 10 36 0 Stolen)
     ∷ answer (NoNote 11 1 60)
-    -- P8: "key 46 goes idle and its generator takes 42"
+    -- P8: key 46 is idle, and its generator has 42
     ∷ generator (GeneratorIs 1 10 46)
     ∷ answer (Note 10 42 0 Idle)
-    -- P9: "32 bytes of pairs pass number 5; 33 do not"
+    -- P9: 32 bytes of pairs, and 33
     ∷ answer Done
     ∷ answer (Number 5)
     ∷ []

@@ -1,2 +1,2 @@
--- The paper's examples.
+-- The examples P1 to P9.
 pub mod Examples

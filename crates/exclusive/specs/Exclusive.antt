@@ -1,4 +1,4 @@
--- Document 01, "MIP table, masks, shares": what an ended SysEx does to the sound module, and what it answers.
+-- What an ended SysEx does to the sound module, and what it answers (R2.7, R2.8, section 3 of docs/RULES.md).
 use Prim.Native.Nat.{ℕ}
 use mathlib.Core.List.{List}
 use mathlib.Core.Option.{Option, some, none}
@@ -19,11 +19,11 @@ use Rattle.playing.specs.declared.Answer.the-variants as answer
 use Rattle.playing.specs.declared.Reply.{Reply}
 use Rattle.playing.specs.Playing.{replied}
 
--- "An accepted message replaces the table. Busy generators of newly masked channels become releasing"
+-- R2.7, R2.8: the new table, and what it does to the notes of newly masked channels; R2.9: all else stays
 unfoldable pub newTable : Instrument → Table → Instrument
 newTable i t = withTable (withGenerators i (masked (i .polyphony) (i .table) t (i .generators))) t
 
--- a number of the paper as an answer, and none where there is none
+-- a number as an answer, and none where there is none
 abbrev pub answerOf : Option ℕ → Answer
 answerOf none = answer.Nothing
 answerOf (some n) = answer.Number n
@@ -32,11 +32,11 @@ abbrev pub judgedReply : Instrument → Verdict → Table → Reply
 judgedReply i Accepted t = replied answer.Done (newTable i t)
 judgedReply i (Refused n) t = replied (answerOf (judging.numberOf (Refused n))) i
 
--- a MIP message for us by its data bytes, of which the first four are its head
+-- R3.3: a MIP message for us by its data bytes, of which the first four are its head; refused, it leaves the table
 unfoldable pub mipTaken : Instrument → List ℕ → Reply
 mipTaken i l = judgedReply i (judged (drop 4 l) .verdict) (judged (drop 4 l) .table)
 
--- an ended SysEx; "GM System On .. makes the record that of a fresh start with the same P and ID"; "Other SysEx .. answers none"
+-- an ended SysEx; R3.6: GM System On gives a fresh record with the same P and own ID; R3.7: any other answers none
 abbrev pub kindReply : Instrument → List ℕ → Kind → Reply
 kindReply i l Mip = mipTaken i l
 kindReply i l SystemOn = replied answer.Done (fresh (i .polyphony) (i .id))

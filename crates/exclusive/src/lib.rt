@@ -1,5 +1,5 @@
-// What an ended SysEx does to the sound module, and what it answers (document 01, "MIP table, masks, shares"): a MIP message, GM System On, or nothing for us.
-// By value, for every value. Assumes nothing.
+// What an ended SysEx does to the sound module, and what it answers (R2.7, R3.3, R3.6, R3.7): a MIP message, GM
+// System On, or nothing for us. By value, for every value. Assumes nothing.
 ghost use mathlib.Core.Path.{_≡_};
 ghost use Rattle.splitter.specs.Split.{body};
 ghost use Rattle.exclusive.specs.Exclusive.{newTable, mipTaken, exclusive};

@@ -80,7 +80,7 @@ under p h = let w = getD weights p 0 in leb→le _ _ (both-right (leb (squares p
 pub as-many : length weights ≡ 127
 as-many = refl
 
--- the table is as the paper says
+-- R12.3, R12.5 of the table
 pub weighs : Weighs weight
 unfolding weight
 weighs = record { first = refl; last = refl; rises = below-next; not-over = over; not-under = under }

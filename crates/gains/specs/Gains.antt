@@ -1,4 +1,4 @@
--- Document 02, ticket 13: the gains left and right of a channel, by its expression, volume and pan.
+-- The gains left and right of a channel (section 12 of docs/RULES.md), by its expression, volume and pan.
 -- Assumes nothing.
 use Prim.Native.Nat.{ℕ, suc, _+_, _-_, _*_, _≤_, _<_}
 use mathlib.Core.Path.{_≡_}
@@ -15,7 +15,8 @@ use Rattle.gains.specs.declared.GainsAnswer.{GainsAnswer}
 use Rattle.gains.specs.declared.GainsAnswer.the-variants.{GainsAre, OutOfRange}
 use Rattle.gains.specs.Within.{Within, AtMost1, Is0}
 
--- the 127 weights, each "nearest to 32768 × sin(pi × p / 252)": no proof speaks of a sine, so that a test program compares them (rust/tests/gains.rs)
+-- R12.4: the 127 weights, each nearest to its sine. No proof speaks of a sine, so that a test program compares them
+-- (rust/tests/gains.rs)
 abbrev pub weights : List ℕ
 weights =
     0 ∷ 408 ∷ 817 ∷ 1225 ∷ 1633 ∷ 2041 ∷ 2449 ∷ 2856 ∷ 3263 ∷ 3669 ∷ 4074 ∷ 4480 ∷ 4884 ∷ 5287 ∷ 5690 ∷ 6092
@@ -31,8 +32,9 @@ weights =
 unfoldable pub weight : ℕ → ℕ
 weight p = getD weights p 0
 
--- what is proved of the table: it "rises strictly from W(0) = 0 to W(126) = 32768", and "W(p) squared plus W(126 − p) squared lies within 46,342 of
--- 1,073,741,824 for each p", so that the two sides together are nowhere louder or softer than 32768 alone by more than that
+-- what is proved of the table: R12.3: it rises strictly from 0 to 32768; R12.5: the squares of both sides come to
+-- nearly the same everywhere, so that the two together are nowhere louder or softer than 32768 alone by more than
+-- that
 pub record Weighs (W : ℕ → ℕ) : Type 0 where
   pub first : W 0 ≡ 0
   pub last : W 126 ≡ 32768
@@ -40,32 +42,33 @@ pub record Weighs (W : ℕ → ℕ) : Type 0 where
   pub not-over : (p : ℕ) → p < 127 → W p * W p + W (126 - p) * W (126 - p) ≤ 1073741824 + 46342
   pub not-under : (p : ℕ) → p < 127 → 1073741824 ≤ W p * W p + W (126 - p) * W (126 - p) + 46342
 
--- "Pan p has 1 taken off if above 0": a difference is never below 0
+-- R12.2: pan is lowered by 1, but not below 0, where a difference never is
 abbrev pub panned : ℕ → ℕ
 panned p = p - 1
 
--- the exact fraction is (e / 127) squared, times (v / 127) squared, times w / 32768; the gain x is "within one millionth" of it and, more than the paper asks, not above 1, so that no
--- sample grows, and 0 where the fraction is, so that silence is silence
+-- R12.1: the exact fraction is (e / 127) squared, times (v / 127) squared, times w / 32768; R12.7: the gain x differs
+-- from it by at most a millionth; R12.8: it is not above 1, so that no sample grows, and 0 where the fraction is, so
+-- that silence is silence
 abbrev pub Near : ℕ → ℕ → ℕ → Float → Type 0
 Near e v w x = Within 1000000 x (e * e * (v * v) * w) (127 * 127 * (127 * 127) * 32768) × AtMost1 x × (e * e * (v * v) * w ≡ 0 → Is0 x)
 
--- number 24: "any of the three above 127"
+-- R8.24: expression, volume or pan above 127
 abbrev pub isOut : ℕ → ℕ → ℕ → Bool
 isOut e v p = ltb 127 e || (ltb 127 v || ltb 127 p)
 
 abbrev pub numberFor : ℕ → ℕ → ℕ → Option ℕ
 numberFor e v p = if isOut e v p then some 24 else none
 
--- "Refused calls give 0 and 0"
+-- R12.9: what a refused call gives
 abbrev pub silent : Gains
 silent = record { left = ofBits binary32 0; right = ofBits binary32 0 }
 
--- the gains of a call, refused or not: "left at 126 − p, right at p"
+-- R12.6: the gains of a call, refused or not: the left weight at 126 less the lowered pan, the right one at it
 abbrev pub Gives : Bool → ℕ → ℕ → ℕ → Gains → Type 0
 Gives true e v p g = g ≡ silent
 Gives false e v p g = Near e v (weight (126 - panned p)) (g .left) × Near e v (weight (panned p)) (g .right)
 
--- the number of document 02 for the answer, and its gains
+-- R8.24: the number of the answer, and its gains
 abbrev pub gainsNumber : GainsAnswer → Option ℕ
 gainsNumber (GainsAre g) = none
 gainsNumber OutOfRange = some 24
@@ -78,6 +81,6 @@ gainsIn OutOfRange = silent
 abbrev pub Answered : ℕ → ℕ → ℕ → GainsAnswer → Type 0
 Answered e v p a = (gainsNumber a ≡ numberFor e v p) × Gives (isOut e v p) e v p (gainsIn a)
 
--- the same, by the numbers of a channel in the record
+-- R12.10: the same, by the numbers of a channel in the record
 abbrev pub AnsweredOf : Channel → GainsAnswer → Type 0
 AnsweredOf c a = Answered (c .expression) (c .volume) (c .pan) a

@@ -1,4 +1,5 @@
-// The gains left and right of a channel (document 02, ticket 13), for every expression, volume and pan: products of f32 quotients, each with the bound of its rounding.
+// The gains left and right of a channel (R12.1 to R12.10), for every expression, volume and pan: products of f32
+// quotients, each with the bound of its rounding.
 // Assumes nothing.
 ghost use mathlib.Core.Path.{_≡_};
 ghost use Prim.Native.Nat.{_≤_, _<_, _+_, _-_, _*_};

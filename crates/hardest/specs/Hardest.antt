@@ -1,4 +1,4 @@
--- Document 02, ticket 14: "For a fresh device and n bytes .. from one sender, without reports, say how many thefts can occur at most". No list of n bytes makes more,
+-- How many thefts n bytes without reports can make on a fresh device (R13.1, R13.2). No list of n bytes makes more,
 -- whatever the bytes are, and the song that crate `song` writes makes as many.
 use Prim.Native.Nat.{ℕ, _-_, _/_, _≤_}
 use mathlib.Core.Path.{_≡_}
@@ -10,7 +10,7 @@ use Rattle.device.specs.Device.{isWrongP, started}
 use Rattle.song.specs.declared.SongAnswer.the-variants.{Thefts}
 use Rattle.song.specs.Song.{thefts, song, isTooLong, songAnswer}
 
--- "the floor of (n − 1) / 2, less P, and 0 where that is negative or n is 0"; a difference of natural numbers is 0 where it would be negative
+-- R13.1: the formula; a difference of natural numbers is 0 where it would be negative
 unfoldable pub mostThefts : ℕ → ℕ → ℕ
 mostThefts p n = (n - 1) / 2 - p
 
@@ -24,11 +24,11 @@ polyphonyOf d = d .instrument .polyphony
 
 -- ---- what is claimed, for every start
 
--- "No song of n bytes may do worse", and every list of bytes is a song
+-- R13.2: no list of n bytes makes more, and every list of bytes is a song
 abbrev pub NoWorse : Type 0
 NoWorse = (p id : ℕ) (l : List ℕ) → thefts (newDevice p id) l ≤ mostThefts (polyphonyOf (newDevice p id)) (length l)
 
--- "a song of n bytes that reaches it", of any n
+-- R13.3: the song makes as many, for every n
 abbrev pub Reached : Type 0
 Reached = (p id n : ℕ) → thefts (newDevice p id) (song n) ≡ mostThefts (polyphonyOf (newDevice p id)) n
 

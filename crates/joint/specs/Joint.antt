@@ -1,4 +1,4 @@
--- Document 02, ticket 1: "the largest number of busy generators ever seen after a line on that channel and those before it".
+-- R14.5: the busy generators of a channel and of those before it in the order, and the largest number seen.
 -- Assumes nothing.
 use Prim.Native.Nat.{ℕ, _+_}
 use mathlib.Core.Bool.{Bool, false, _&&_, _||_}
@@ -18,7 +18,7 @@ among c (x ∷ l) = eqb c x || among c l
 unfoldable pub busyOn : List ℕ → Generators → ℕ
 busyOn channels s = total (λ g. bit (isBusy (at s g) && among (at s g .channel) channels)) 64
 
--- those "on that channel and those before it": the channel at place k of the order, from 0
+-- those of the channel at place k of the order, from 0, and of the ones before it
 abbrev pub jointCount : List ℕ → Generators → ℕ → ℕ
 jointCount order s k = busyOn (take (k + 1) order) s
 

@@ -1,5 +1,4 @@
--- Document 01, "The listing program": the line of an answer, in ASCII. "Fields, parted by commas, no quoting: offset of the byte that completed it .., `done`,
--- `note` or the number, channel, key, generator, what it was."
+-- R16.3: the line of an answer, in ASCII: its fields with commas between them.
 use Prim.Native.Nat.{ℕ, zero, suc}
 use mathlib.Core.List.{List, [], _∷_, _++_}
 use Rattle.text.specs.Text.{decimal}
@@ -26,7 +25,7 @@ was Idle = 44 ∷ 105 ∷ 100 ∷ 108 ∷ 101 ∷ []
 was Release = 44 ∷ 114 ∷ 101 ∷ 108 ∷ 101 ∷ 97 ∷ 115 ∷ 101 ∷ []
 was Stolen = 44 ∷ 115 ∷ 116 ∷ 111 ∷ 108 ∷ 101 ∷ 110 ∷ []
 
--- the last fields, so many, without a meaning, a comma and a dash each: "A meaningless field is `-`", "every line ends with byte 0AH"
+-- R16.4: the last fields, so many, without a meaning, a comma and a dash each; R16.7: the line's end, 0AH
 abbrev pub dashes : ℕ → List ℕ
 dashes zero = 10 ∷ []
 dashes (suc n) = 44 ∷ 45 ∷ dashes n
@@ -36,14 +35,14 @@ abbrev pub offsetField : Offset → List ℕ
 offsetField (At n) = decimal n
 offsetField Nowhere = 45 ∷ []
 
--- what follows the offset, for a note and for a note-on without a generator: "numbers 10 and 11 give channel and key"
+-- what follows the offset, for a note and, R16.4, for a note-on without a generator
 abbrev pub noteFields : ℕ → ℕ → ℕ → Was → List ℕ
 noteFields c k g w = note ++ field c ++ field k ++ field g ++ (was w ++ dashes 0)
 
 abbrev pub noNoteFields : ℕ → ℕ → ℕ → List ℕ
 noNoteFields n c k = field n ++ field c ++ field k ++ dashes 2
 
--- a line; "None prints no line"
+-- R16.3: a line; R16.5: none has no line
 unfoldable pub lineOf : Offset → Answer → List ℕ
 lineOf o Nothing = []
 lineOf o Done = offsetField o ++ (done ++ dashes 4)

@@ -1,4 +1,4 @@
-// The lines in which programs list answers (document 01, "The listing program"), put into a page. Assumes nothing.
+// The lines in which programs list answers (R16.3 to R16.7), put into a page. Assumes nothing.
 ghost use mathlib.Core.List.{_++_};
 ghost use Rattle.text.specs.Text.{Put};
 ghost use Rattle.lines.specs.Lines.{field, offsetField, dashes, was, noteFields, noNoteFields, lineOf};

@@ -1,4 +1,4 @@
--- Document 01's sentences on the listing program, of what is written for an input: a missing P or ID counts as 0; a failed start prints one line and ends.
+-- R16.1, R16.6 of what is written for an input: a missing P or ID is 0; a refused start has one line and is the end.
 -- Assumes nothing.
 use Prim.Native.Nat.{ℕ}
 use mathlib.Core.Path.{_≡_, refl}
@@ -27,7 +27,7 @@ end-started : (o : Output) → endLine (startLister o) ≡ []
 unfolding endLine startLister listedBy
 end-started o = rw (none-missing (o .answer))
 
--- "a missing P or ID counts as 0"
+-- R16.1: a missing P or ID is 0
 pub missing-p : listing [] ≡ listing (0 ∷ 0 ∷ [])
 unfolding listing newLister listedBy afterAll line after endLine
 missing-p = rw (append-nil (startLine (started 0 0)), end-started (started 0 0), append-nil (startLine (started 0 0)))
@@ -64,7 +64,7 @@ refused-line : (o : Output) (n : ℕ) → o .answer ≡ answer.Number n → star
 unfolding startLine behindStart isRefused
 refused-line o n e = rw e
 
--- "A failed start then prints one line, its number with `-` in every other field, and ends.", whatever comes behind it
+-- R16.6: a refused start has one line, whatever comes behind it
 pub failed-start : (p id n : ℕ) (bs : List ℕ) → started p id .answer ≡ answer.Number n → listing (p ∷ id ∷ bs) ≡ heading ++ lineOf Nowhere (answer.Number n)
 unfolding listing newLister listedBy afterAll line after
 failed-start p id n bs e =

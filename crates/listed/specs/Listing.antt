@@ -1,4 +1,4 @@
--- Document 01, "The listing program": what an input lists, byte by byte.
+-- What an input lists, byte by byte (section 16 of docs/RULES.md).
 use Prim.Native.Nat.{ℕ, _+_}
 use mathlib.Core.Path.{_≡_}
 use mathlib.Core.Bool.{Bool, true, false}
@@ -21,7 +21,7 @@ pub record Lists (old : List ℕ) (at : ℕ) (text : List ℕ) (l r : Lister) (n
   pub kept : r ≡ l
   pub put : Put old at text next new
 
--- "at,what,channel,key,generator,was" and 0AH
+-- R16.2: `at,what,channel,key,generator,was` and 0AH
 abbrev pub heading : List ℕ
 heading =
     97 ∷ 116 ∷ 44 ∷ 119 ∷ 104 ∷ 97 ∷ 116 ∷ 44 ∷ 99 ∷ 104 ∷ 97 ∷ 110 ∷ 110 ∷ 101 ∷ 108 ∷ 44 ∷ 107 ∷ 101 ∷ 121 ∷ 44
@@ -49,21 +49,21 @@ isRefused (Id p) = false
 isRefused Midi = false
 isRefused (Refused n) = true
 
--- "A failed start then prints one line, its number with `-` in every other field, and ends."
+-- R16.6: a refused start has a line; R16.5: a good one has none
 unfoldable pub startLine : Output → List ℕ
 startLine o = if isRefused (behindStart (o .answer)) then lineOf Nowhere (o .answer) else []
 
 unfoldable pub startLister : Output → Lister
 startLister o = record { awaits = behindStart (o .answer); at = 0; device = o .device }
 
--- a MIDI byte: "offset of the byte that completed it (0 for the first MIDI byte)"
+-- R16.3: a MIDI byte, by its place from 0 on
 unfoldable pub midiLine : Lister → ℕ → List ℕ
 midiLine l b = lineOf (At (l .at)) (byteTaken (l .device) b .answer)
 
 unfoldable pub afterMidi : Lister → ℕ → Lister
 afterMidi l b = record { awaits = Midi; at = nextOffset (l .at); device = byteTaken (l .device) b .device }
 
--- "It reads P, ID, then MIDI bytes": what a byte lists, and what is kept after it
+-- R16.1: P, the own ID, then MIDI bytes: what a byte lists, and what is kept after it
 abbrev pub lineBy : Awaits → Lister → ℕ → List ℕ
 lineBy Polyphony l b = []
 lineBy (Id p) l b = startLine (started p b)
@@ -91,7 +91,7 @@ unfoldable pub afterAll : Lister → List ℕ → Lister
 afterAll l [] = l
 afterAll l (b ∷ bs) = afterAll (after l b) bs
 
--- the end of the input: "a missing P or ID counts as 0"
+-- R16.1: the end of the input: a missing P or ID is 0
 abbrev pub missing : Awaits → List ℕ
 missing Polyphony = 0 ∷ 0 ∷ []
 missing (Id p) = 0 ∷ []
@@ -101,6 +101,6 @@ missing (Refused n) = []
 unfoldable pub endLine : Lister → List ℕ
 endLine l = listedBy l (missing (l .awaits))
 
--- what the program writes for an input: "The first line below is always printed"
+-- R16.2: what the program writes for an input, the first line always
 unfoldable pub listing : List ℕ → List ℕ
 listing input = heading ++ (listedBy newLister input ++ endLine (afterAll newLister input))

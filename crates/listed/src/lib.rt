@@ -1,5 +1,5 @@
-// What the listing program lists (document 01, "The listing program"): P, the own ID, then MIDI bytes, each of which may put a line into a page, and what the end of
-// the input adds. Reading and writing are in crate `filters`. Assumes nothing.
+// What the listing program lists (R16.1 to R16.7): P, the own ID, then MIDI bytes, each of which may put a line into
+// a page, and what the end of the input adds. Reading and writing are in crate `filters`. Assumes nothing.
 ghost use Prim.Native.Nat.{_*_, _≤_};
 ghost use mathlib.Core.Path.{_≡_};
 ghost use lib.ListN.{length, take};

@@ -62,7 +62,7 @@ all-read = refl
 
 -- ---- what is read spells the line
 
--- "a byte 0 to 255", "an ended generator 0 to 63"
+-- R14.1: a byte from 0 to 255, a generator from 0 to 63
 abbrev pub Loggable : Event → Type 0
 Loggable (Byte b) = b < 256
 Loggable (Report g) = g < 64

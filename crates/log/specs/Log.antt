@@ -1,5 +1,4 @@
--- Document 02, ticket 1: "a log of a song, one line per event, `b,` and a byte 0 to 255, or `e,` and an ended generator 0 to 63, decimal without leading
--- zeros, each line ended by byte 0AH".
+-- R14.1: the lines of a song's log.
 -- Assumes nothing.
 use Prim.Native.Nat.{ℕ, _+_, _/_, _%_}
 use mathlib.Core.Bool.{Bool, true, false, _&&_}
@@ -15,7 +14,7 @@ use Rattle.log.specs.declared.Line.{Line}
 use Rattle.log.specs.declared.Meaning.{Meaning}
 use Rattle.log.specs.declared.Meaning.the-variants.{Says, Other}
 
--- a number below 1000, "decimal without leading zeros"; digit 0 is byte 48
+-- a number below 1000 in decimal, with no zero before it; digit 0 is byte 48
 unfoldable pub decimal : ℕ → List ℕ
 decimal n =
     if ltb n 10 then (48 + n) ∷ [] else
@@ -27,7 +26,7 @@ unfoldable pub lineOf : Event → List ℕ
 lineOf (Byte b) = 98 ∷ 44 ∷ (decimal b ++ (0x0A ∷ []))
 lineOf (Report g) = 101 ∷ 44 ∷ (decimal g ++ (0x0A ∷ []))
 
--- "a byte 0 to 255", "an ended generator 0 to 63"
+-- the events that have a line: bytes from 0 to 255, generators from 0 to 63
 unfoldable pub loggable : List Event
 loggable = upTo Byte 256 ++ upTo Report 64
 
@@ -37,7 +36,7 @@ same [] (y ∷ m) = false
 same (x ∷ l) [] = false
 same (x ∷ l) (y ∷ m) = eqb x y && same l m
 
--- the event whose line this is; none for "a log line of another form"
+-- R14.1: the event whose line this is; none for a line of another form
 unfoldable pub eventOf : List ℕ → Option Event
 eventOf l = firstOf (λ e. same l (lineOf e)) loggable
 

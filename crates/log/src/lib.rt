@@ -1,4 +1,4 @@
-// A line of a song's log (document 02, ticket 1): which event it says, for every text. Assumes nothing.
+// A line of a song's log (R14.1): which event it says, for every text. Assumes nothing.
 ghost use mathlib.Core.Path.{_≡_};
 ghost use mathlib.Core.List.{[], _∷_};
 ghost use Rattle.log.specs.Log.{blank, put, textOf, eventOf, meaningOf};

@@ -1,5 +1,6 @@
--- The program `arrange` (document 02, ticket 1): on standard input a line with the order of the channels, sixteen decimal numbers with a comma between each two, and behind it the log; on
--- standard output the 38 bytes of the message, nothing beside a number; on standard error a line `number,line,message`. All text is ASCII, and every line ends with byte 0AH.
+-- R17.4: the program `arrange`: on standard input a line with the order of the channels, sixteen decimal numbers with
+-- a comma between each two, and behind it the log; on standard output the 38 bytes of the message, nothing beside a
+-- number; on standard error a line `number,line,message`. All text is ASCII, and every line ends with byte 0AH.
 -- Assumes nothing.
 use Prim.Native.Nat.{ℕ, _+_}
 use mathlib.Core.Bool.{Bool, true, false, not, _&&_}

@@ -1,5 +1,6 @@
-// The text of the program `arrange` (document 02, ticket 1): a line with the order of the channels, sixteen decimal numbers with a comma between each two, and behind it the log; and what the
-// answer is in bytes and in a line. The message is crate `arranging`'s, and reading and writing are the program's. Assumes nothing.
+// The text of the program `arrange` (R17.4): a line with the order of the channels, sixteen decimal numbers with a
+// comma between each two, and behind it the log; and what the answer is in bytes and in a line. The message is crate
+// `arranging`'s, and reading and writing are the program's. Assumes nothing.
 ghost use Prim.Native.Nat.{_+_, _≤_};
 ghost use mathlib.Core.Path.{_≡_};
 ghost use mathlib.Core.Bool.{true};

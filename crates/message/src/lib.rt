@@ -1,4 +1,4 @@
-// What a channel message says (document 01, "Bytes"), for every status and data byte value. Assumes nothing.
+// What a channel message says (R1.12, R6.1, R6.5), for every status and data byte value. Assumes nothing.
 ghost use mathlib.Core.Path.{_≡_};
 ghost use Rattle.message.specs.Message.{decode};
 

@@ -1,5 +1,5 @@
--- The answers of documents 01 and 02 in plain numbers, as C has them: what it is (0 none, 1 done, 2 a note, 3 a number), the paper's number, 0 where it has none, and the values that
--- the answer carries. A field without meaning is 0.
+-- The answers in plain numbers, as C has them (section 18 of docs/RULES.md): what it is (0 none, 1 done, 2 a note, 3
+-- a number), the number, 0 where it has none, and the values that the answer carries. A field without meaning is 0.
 use Prim.Native.Nat.{ℕ}
 use mathlib.Core.Path.{_≡_}
 use Rattle.loops.specs.Cases.{orZero}
@@ -30,13 +30,13 @@ use Rattle.song.specs.Song.{theftsIn, songNumber}
 use Rattle.numbers.specs.declared.GainNumbers.{GainNumbers}
 use Rattle.numbers.specs.declared.SongNumbers.{SongNumbers}
 
--- "what the generator was: idle, release or stolen"
+-- R4.11, R18.1: what the generator was
 abbrev pub wasNumber : Was → ℕ
 wasNumber Idle = 0
 wasNumber Release = 1
 wasNumber Stolen = 2
 
--- "The answer is note (channel, key, generator, what the generator was ..), done .., none, or a number"; "numbers 10 and 11 give channel and key"
+-- R18.1: an answer to an event; numbers 10 and 11 have channel and key
 abbrev pub numbersOf : Answer → AnswerNumbers
 numbersOf Nothing = record { what = 0; number = 0; channel = 0; key = 0; generator = 0; was = 0 }
 numbersOf Done = record { what = 1; number = 0; channel = 0; key = 0; generator = 0; was = 0 }
@@ -44,7 +44,7 @@ numbersOf (Note c k g w) = record { what = 2; number = 0; channel = c; key = k; 
 numbersOf (NoNote n c k) = record { what = 3; number = orZero (numberOf (NoNote n c k)); channel = c; key = k; generator = 0; was = 0 }
 numbersOf (Number n) = record { what = 3; number = orZero (numberOf (Number n)); channel = 0; key = 0; generator = 0; was = 0 }
 
--- "A refused query gives its number only"
+-- R18.2, R7.3: the answers to queries; a refused one gives its number alone
 abbrev pub generatorNumbers : GeneratorAnswer → GeneratorNumbers
 generatorNumbers (GeneratorIs s c k) = record { number = 0; state = s; channel = c; key = k }
 generatorNumbers NoGenerator = record { number = orZero (generatorNumber NoGenerator); state = 0; channel = 0; key = 0 }

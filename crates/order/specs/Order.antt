@@ -1,4 +1,4 @@
--- Document 02, ticket 1: "a given order of all sixteen channels"; "16, an order that is not all sixteen channels once".
+-- R14.3, R8.16: an order of the channels is all sixteen, each once.
 -- Assumes nothing.
 use Prim.Native.Nat.{ℕ, zero, suc, _+_}
 use mathlib.Core.Bool.{Bool, true, false, _&&_}

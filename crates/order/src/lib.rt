@@ -1,4 +1,4 @@
-// An order of the sixteen channels (document 02, ticket 1), for every list of bytes. Assumes nothing.
+// An order of the sixteen channels (R14.3), for every list of bytes. Assumes nothing.
 ghost use mathlib.Core.Path.{_≡_};
 ghost use Prim.Native.Nat.{_+_};
 ghost use lib.Dec.{eqb};

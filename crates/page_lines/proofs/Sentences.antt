@@ -71,7 +71,7 @@ refused-start p id n bs e =
     let o = started p id in
     ap (λ (x : Lister). answerText (ended x)) (nothing-changed (startLister o) n (stopped o n e) bs) ∙ refused-text (startLister o) n (stopped o n e)
 
--- number 1, "P not 1 to 64", and 2, "ID above 126"
+-- R8.1, R8.2: a wrong P and a wrong own ID
 pub lines-written : (numberLine 1 ≡ 49 ∷ 10 ∷ []) × (numberLine 2 ≡ 50 ∷ 10 ∷ [])
 unfolding numberLine decimalWithin
 lines-written = (refl, refl)

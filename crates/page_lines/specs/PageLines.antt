@@ -1,5 +1,6 @@
--- The program `page` (document 02, ticket 2): the listing program's input, P, the own ID, then MIDI bytes, answered at its end with the device's service page. A refused
--- start has no page: its number in decimal is then the answer, on a line that ends with byte 0AH.
+-- R17.5: the program `page`: the listing program's input, P, the own ID, then MIDI bytes, answered at its end with
+-- the device's service page. A refused start has no page: its number in decimal is then the answer, on a line that
+-- ends with byte 0AH.
 -- Assumes nothing.
 use Prim.Native.Nat.{ℕ}
 use mathlib.Core.Path.{_≡_}

@@ -125,7 +125,7 @@ within k s b e = go (ltb 127 k) (ltb 24 s) (ltb 16383 b) refl refl refl e
     go false true z p q r t = absurd (clash t)
     go false false true p q r t = absurd (clash t)
 
--- "A higher position never gives a lower pitch": of two calls that are not refused, the one of higher position gives the higher pitch
+-- R11.4: of two calls that are not refused, the one of higher position gives the higher pitch
 pub higher-position-higher-pitch : (k s b k′ s′ b′ : ℕ) → isOut k s b ≡ false → isOut k′ s′ b′ ≡ false → position k s b <ℤ position k′ s′ b′
     → Lower (pitchIn (pitchOf k s b)) (pitchIn (pitchOf k′ s′ b′))
 unfolding pitchOf
@@ -138,7 +138,7 @@ higher-position-higher-pitch k s b k′ s′ b′ e e′ h =
     let p′ = position-of k′ s′ b′ (w′ .1) in
     rw (e, e′, ← p, ← p′) (higher-raised n n′ (ordered n n′ (rw (← p, ← p′) at h)))
 
--- "the octave .. from −2 to 12", the refused call's 0 included
+-- R11.3: the octave is from −2 to 12, the refused call's 0 included
 in-range : (o : ℕ) → o < 15 → (negsuc 1 ≤ℤ subℕ o 2) × (subℕ o 2 ≤ℤ pos 12)
 in-range o h = go (ltb o 2) refl
   where

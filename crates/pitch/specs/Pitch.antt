@@ -1,4 +1,4 @@
--- Document 02, ticket 7: the pitch of a note, by its key, the sensitivity and the bend of its channel.
+-- The pitch of a note (section 11 of docs/RULES.md), by its key, the sensitivity and the bend of its channel.
 -- Assumes nothing.
 use Prim.Native.Nat.{ℕ, zero, suc, _+_, _-_, _*_, _/_, _%_, _^_, _<_}
 use mathlib.Core.Bool.{Bool, _||_}
@@ -20,7 +20,8 @@ abbrev pub rest : ℤ → ℕ → ℕ
 rest (pos n) d = n % d
 rest (negsuc n) d = d - 1 - n % d
 
--- the position, "in sixteenths of a semitone": 16 a key, and 16 a semitone of the sensitivity for every 8192 steps that the bend is from its centre, down to the floor
+-- R11.1: the position, 16 a semitone: 16 for each key, and 16 a semitone of the sensitivity for every 8192 steps that
+-- the bend is from its centre, rounded down
 unfoldable pub position : ℕ → ℕ → ℕ → ℤ
 position k s b = pos (16 * k) +ℤ floorDiv (pos (16 * s) *ℤ subℕ b 8192) 8192
 
@@ -29,31 +30,33 @@ unfoldable pub largest : (ℕ → Bool) → ℕ → ℕ
 largest p zero = 0
 largest p (suc m) = if p (suc m) then suc m else largest p m
 
--- entry i of the octave, 0 to 191: the largest number whose 192nd power is at most 2 to the power 3072 + i. No power is less than its number, so that the search need not go further
+-- R11.2: entry i of the octave, 0 to 191. No power is less than its number, so that the search for the largest need
+-- not go further
 unfoldable pub entry : ℕ → ℕ
 entry i = largest (λ n. leb (n ^ 192) (2 ^ (3072 + i))) (2 ^ (3072 + i))
 
--- an octave is 192 sixteenths: which one, and "the entry at the remainder"
+-- R11.3: an octave is 192 sixteenths: which one, and the entry of what remains
 unfoldable pub pitchAt : ℤ → Pitch
 pitchAt p = record { octave = floorDiv p 192; entry = entry (rest p 192) }
 
--- number 21: "key above 127, sensitivity above 24 or bend above 16383"
+-- R8.21: a key, sensitivity or bend that MIDI does not have
 abbrev pub isOut : ℕ → ℕ → ℕ → Bool
 isOut k s b = ltb 127 k || (ltb 24 s || ltb 16383 b)
 
 unfoldable pub pitchOf : ℕ → ℕ → ℕ → PitchAnswer
 pitchOf k s b = if isOut k s b then OutOfRange else Sounds (pitchAt (position k s b))
 
--- the number of document 02 for the answer
+-- R8.21: the number of the answer
 abbrev pub pitchNumber : PitchAnswer → Option ℕ
 pitchNumber (Sounds p) = none
 pitchNumber OutOfRange = some 21
 
--- what a refused call answers beside its number
+-- R11.5: what a refused call answers beside its number
 abbrev pub pitchIn : PitchAnswer → Pitch
 pitchIn (Sounds p) = p
 pitchIn OutOfRange = record { octave = pos 0; entry = 65536 }
 
--- a pitch that is lower than another: a pitch is its entry times 2 to the power of its octave, which is the fraction up / down
+-- R11.4: a pitch that is lower than another: a pitch is its entry times 2 to the power of its octave, which is the
+-- fraction up / down
 abbrev pub Lower : Pitch → Pitch → Type 0
 Lower p q = p .entry * up (p .octave) * down (q .octave) < q .entry * up (q .octave) * down (p .octave)

@@ -1,4 +1,5 @@
-// The pitch of a note (document 02, ticket 7): an octave and an entry of a table of one octave, for every key, sensitivity and bend.
+// The pitch of a note (R11.1 to R11.5): an octave and an entry of a table of one octave, for every key, sensitivity
+// and bend.
 // Assumes nothing.
 ghost use mathlib.Core.Path.{_≡_};
 ghost use Prim.Native.Nat.{_<_, _/_, _%_};

@@ -29,11 +29,11 @@ use Rattle.reached.proofs.Kept.{always-in-range}
 
 -- ---- the words
 
--- no number 24 of ticket 13, for expression, volume and pan
+-- R8.24: no number 24, for expression, volume and pan
 pub levels-in-range : (c : Channel) → InRange c → numberFor (c .expression) (c .volume) (c .pan) ≡ none
 levels-in-range c r = simp (le-ltb _ _ (r .expression), le-ltb _ _ (r .volume), le-ltb _ _ (r .pan))
 
--- what number 21 of ticket 7 asks of a channel: the sensitivity not above 24, the bend not above 16383
+-- what R8.21 asks of a channel: the sensitivity not above 24, the bend not above 16383
 pub bend-below-16384 : (c : Channel) → InRange c → (c .sensitivity < 25) × (128 * c .«bend_msb» + c .«bend_lsb» < 16384)
 bend-below-16384 c r = omega arith
 

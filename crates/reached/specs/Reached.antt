@@ -1,6 +1,8 @@
--- Document 01, "The device record": the eleven numbers of a channel stay in MIDI's range, whatever is sent. A driver that asks for the levels by a channel's
--- numbers in the record (document 02, ticket 13) is therefore never refused; for the pitch (ticket 7) sensitivity and bend are in their ranges.
--- A byte is any number here: one above 255, which no u8 holds, is passed over like F8 to FF, so that nothing is asked of the list.
+-- R12.11: the eleven numbers of a channel stay in MIDI's range, whatever is sent. A driver that asks for the gains by
+-- a channel's numbers in the record is therefore never refused; for the pitch, sensitivity and bend are in their
+-- ranges.
+-- A byte is any number here: one above 255, which no u8 holds, is passed over like F8 to FF, so that nothing is asked
+-- of the list.
 -- Assumes nothing.
 use Prim.Native.Nat.{ℕ, _≤_}
 use mathlib.Core.Path.{_≡_}
@@ -13,7 +15,7 @@ use Rattle.device.specs.Device.{started}
 use Rattle.events.specs.declared.Event.{Event}
 use Rattle.events.specs.Events.{taken}
 
--- what a data byte can carry, 0 to 127; "24 if above 24"
+-- what a data byte can carry, 0 to 127; R6.9: a sensitivity of at most 24
 pub record InRange (c : Channel) : Type 0 where
   pub program : c .program ≤ 127
   pub modulation : c .modulation ≤ 127
@@ -27,7 +29,7 @@ pub record InRange (c : Channel) : Type 0 where
   pub «bend_lsb» : c .«bend_lsb» ≤ 127
   pub sensitivity : c .sensitivity ≤ 24
 
--- "Each of the sixteen channels": there are sixteen, and channels 1 to 16 are in range
+-- R1.8: there are sixteen channels, and 1 to 16 are in range
 pub record AllInRange (d : Device) : Type 0 where
   pub sixteen : length (d .instrument .channels) ≡ 16
   pub each : (c : ℕ) → 1 ≤ c → c ≤ 16 → InRange (channelOf (d .instrument) c)

@@ -1,4 +1,4 @@
--- Document 01, "Other messages": "The tone generator reports the end of generator g: a sounding one becomes idle, with answer done."
+-- R7.1: the tone generator reports the end of a generator.
 use Prim.Native.Nat.{ℕ}
 use lib.Dec.{leb}
 use Rattle.loops.specs.Cases.{if_then_else_}
@@ -12,7 +12,7 @@ use Rattle.playing.specs.declared.Answer.the-variants.{Done, Number}
 use Rattle.playing.specs.declared.Reply.{Reply}
 use Rattle.playing.specs.Playing.{replied}
 
--- number 12: "generator P or above"; number 13: "idle generator"; both change nothing; "12 before 13"
+-- R7.2: first R8.12, a generator that there is not, then R8.13, an idle one; both leave all as it is
 unfoldable pub reported : Instrument → ℕ → Reply
 reported i g =
     if leb (i .polyphony) g then replied (Number 12) i else

@@ -1,4 +1,5 @@
-// The end of a generator's sound, as the tone generator reports it (document 01, "Other messages"), by value, for every value. Assumes nothing.
+// The end of a generator's sound, as the tone generator reports it (R7.1, R7.2), by value, for every value. Assumes
+// nothing.
 ghost use mathlib.Core.Path.{_≡_};
 ghost use Rattle.reports.specs.Reports.{reported};
 use instrument::Instrument;

@@ -108,7 +108,7 @@ unfolding rowsTo row
 rows-same t p f g zero h = refl
 rows-same t p f g (suc n) h = rw (rows-same t p f g n (λ c k. h c (omega arith)), h (suc n) (omega arith)) refl
 
--- "323 bytes in all", whatever the record
+-- R15.1: 323 bytes, whatever the record
 pub page-length : (d : Device) → length (pageText d) ≡ 323
 unfolding pageText pageOf head
 page-length d =

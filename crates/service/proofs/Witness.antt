@@ -73,7 +73,7 @@ last-channel = refl
 
 -- ---- the buffer
 
--- "Bytes after the 323rd keep their content"
+-- R15.7: the bytes behind the page stay
 behind-a-page : (d : Device) (old : List ℕ) → length (pageText d) ≡ 323 → 323 ≤ length old → drop 323 (pageAfter d old) ≡ drop 323 old
 unfolding pageAfter
 behind-a-page d old n h = rw (le-ltb (length old) 323 h) (drop-at (pageText d) (drop 323 old) 323 n)
@@ -81,12 +81,12 @@ behind-a-page d old n h = rw (le-ltb (length old) 323 h) (drop-at (pageText d) (
 pub kept-behind : (d : Device) (old : List ℕ) → 323 ≤ length old → drop 323 (pageAfter d old) ≡ drop 323 old
 kept-behind d old h = behind-a-page d old (page-length d) h
 
--- "left untouched"
+-- R15.7: a short buffer stays as it was
 pub untouched : (d : Device) (old : List ℕ) → length old < 323 → pageAfter d old ≡ old
 unfolding pageAfter
 untouched d old h = rw (lt-ltb (length old) 323 h) refl
 
--- "18, a buffer under 323 bytes"
+-- R8.18: from 323 bytes on the page is written
 pub under-323 : (pageAnswer (replicate 322 0) ≡ TooShort) × (pageAnswer (replicate 323 0) ≡ Written)
 unfolding pageAnswer
 under-323 = (refl, refl)

@@ -1,4 +1,5 @@
-// The service page (document 02, ticket 2): the state of a device on 17 lines, written into a lent buffer. By value but for the buffer, for every value of the record.
+// The service page (R15.1 to R15.7): the state of a device on 17 lines, written into a lent buffer. By value but for
+// the buffer, for every value of the record.
 // Assumes nothing.
 ghost use mathlib.Core.Path.{_≡_};
 ghost use Prim.Native.Nat.{_+_, _≤_};

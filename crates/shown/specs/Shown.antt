@@ -1,5 +1,5 @@
--- Document 02, ticket 2: what the service page shows, said without its code. The page is that of the note book of demand 3; it agrees with the queries; and its bytes are
--- 17 lines of text.
+-- What the service page shows, said without its code: the page is that of the note book of demand 3; it agrees with
+-- the queries; and its bytes are 17 lines of text.
 -- Assumes nothing.
 use Prim.Native.Nat.{ℕ, _+_, _-_, _*_, _≤_, _<_}
 use mathlib.Core.Path.{_≡_}
@@ -88,13 +88,13 @@ AgreesWithQueries = (p id : ℕ) (l : List Event) (c : ℕ) → 1 ≤ c → c �
 abbrev pub readTwo : List ℕ → ℕ
 readTwo text = (getD text 0 0 - 48) * 10 + (getD text 1 0 - 48)
 
--- what stands under `NT` comes to the number of busy generators
+-- R15.8: what stands under `NT` comes to the number of busy generators
 abbrev pub NotesAddUp : Type 0
 NotesAddUp = (p id : ℕ) (l : List Event) → total (λ i. readTwo (field 16 2 (i + 1) (after Live (begin p id) l .device))) 16 ≡ allBusyTold (after Live (begin p id) l .device)
 
 -- ---- the text
 
--- "17 lines of 18 characters, each ended by byte 0AH": a character is one that can be printed, a blank among them
+-- R15.1: a line is 18 characters and 0AH; a character is one that can be printed, a blank among them
 abbrev pub Characters : List ℕ → Type 0
 Characters [] = Unit {0}
 Characters (x ∷ l) = ((32 ≤ x) × (x ≤ 126)) × Characters l
@@ -118,7 +118,7 @@ pub record OfBytes (t : Table) : Type 0 where
 abbrev pub SeventeenLines : Type 0
 SeventeenLines = (d : Device) → OfBytes (d .instrument .table) → (length (pageText d) ≡ 323) × ((n : ℕ) → n < 17 → IsLine (lineAt n (pageText d)))
 
--- "Numbers are right-aligned with blanks": in so many places
+-- R15.4: a number ends where its places end, with blanks before it
 abbrev pub right : ℕ → List ℕ → List ℕ
 right w text = replicate (w - length text) 32 ++ text
 

@@ -1,4 +1,4 @@
--- Document 01, "Note-on", step 3, and "Other messages": the generators that become idle.
+-- The generators that become idle: by a report, by controller 120, by a drum of their group.
 use Prim.Native.Nat.{ℕ}
 use mathlib.Core.Bool.{Bool, _&&_, not}
 use lib.Dec.{eqb}
@@ -11,8 +11,8 @@ use Rattle.generators.specs.Generators.{Generator, at, isSounding, isOn}
 use Rattle.silence.specs.declared.Leaving.{Leaving}
 use Rattle.silence.specs.declared.Leaving.the-variants.{One, Channel, Group}
 
--- One: "a sounding one becomes idle" (its report); Channel: "120, value 0: all sounding generators of the channel become idle"; Group: "Note-on", step 3:
--- "sounding generators of channel 10 with another key of the same exclusive group become idle"
+-- One, R7.1: the generator that is reported; Channel, R6.10: those of the channel; Group, R5.3: those of the channel
+-- whose key is another one of the new key's group
 unfoldable pub isAmong : Leaving → ℕ → Generator → Bool
 isAmong (One h) g x = eqb g h
 isAmong (Channel c) g x = isOn c x
@@ -24,7 +24,7 @@ leaves l g x = isSounding x && isAmong l g x
 abbrev pub goes : Leaving → Generators → ℕ → Bool
 goes l s g = leaves l g (at s g)
 
--- "An idle one carries channel 0 and key 0"; the others keep their order of age
+-- R1.5: an idle generator carries channel 0 and key 0; R1.7: the others keep their order of age
 unfoldable pub silenced : Leaving → Generators → Generators
 silenced l s =
     record {

@@ -1,4 +1,4 @@
-// Generators that fall silent (document 01, "Note-on", step 3, and "Other messages"), by value, for every value, in a few passes however many they are.
+// Generators that fall silent (R5.3, R6.10, R7.1), by value, for every value, in a few passes however many they are.
 // Assumes nothing.
 ghost use mathlib.Core.Path.{_≡_};
 ghost use lib.Dec.{eqb};

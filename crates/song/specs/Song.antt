@@ -1,4 +1,5 @@
--- Document 02, ticket 14: a song of n bytes in a lent buffer, and "the thefts counted while playing it". That no song of n bytes does worse is stated in crate `hardest`.
+-- The hardest song (section 13 of docs/RULES.md): a song of n bytes in a lent buffer, and its thefts. That no song of
+-- n bytes makes more is stated in crate `hardest`.
 use Prim.Native.Nat.{ℕ, _+_, _-_, _/_, _%_}
 use mathlib.Core.Bool.{Bool, false, _||_}
 use mathlib.Core.List.{List, [], _∷_, _++_}
@@ -17,7 +18,7 @@ use Rattle.song.specs.declared.SongAnswer.the-variants.{Thefts, WrongPol
 
 -- ---- thefts
 
--- a note-on that steals: by number 11 nobody loses a note
+-- R13.4: a note-on that steals: by number 11 nobody loses a note
 abbrev pub isTheft : Answer → Bool
 isTheft (Note c k g w) = isStolen w
 isTheft Nothing = false
@@ -32,7 +33,8 @@ thefts d (b ∷ l) = bit (isTheft (byteTaken d b .answer)) + thefts (byteTaken d
 
 -- ---- the song
 
--- note-on of channel 1 and then, by running status, keys 0, 1, .. 127, 0, .. with velocity 64; the same for every P
+-- R13.5: note-on of channel 1 and then, by running status, keys 0, 1, .. 127, 0, .. with velocity 64; the same for
+-- every P
 unfoldable pub songByte : ℕ → ℕ
 songByte i = if eqb i 0 then 0x90 else if eqb (i % 2) 1 then (i - 1) / 2 % 128 else 64
 
@@ -41,18 +43,18 @@ song n = upTo songByte n
 
 -- ---- the call that writes and plays it
 
--- "25, n above 65,536 or above the buffer's length"
+-- R8.25: n above 65,536, or above what the buffer has room for
 abbrev pub isTooLong : ℕ → ℕ → Bool
 isTooLong n room = ltb 65536 n || ltb room n
 
--- "A wrong P gets number 1 here too"; 25 "after number 1"; else the thefts on a fresh device of polyphony P, with own ID 0
+-- R13.6: number 1 before 25, R8.1; R13.4: else the thefts on a fresh device of polyphony P, with own ID 0
 unfoldable pub songAnswer : ℕ → ℕ → List ℕ → SongAnswer
 songAnswer p n buffer =
     if isWrongP p then WrongPolyphony else
     if isTooLong n (length buffer) then TooLong else
     Thefts (thefts (started p 0 .device) (song n))
 
--- the buffer after it: refused, it is "untouched, as are all bytes after the n-th otherwise"
+-- R13.3: the buffer after it: the song, and behind it what was there; R13.6: refused, it stays as it was
 unfoldable pub songWritten : ℕ → ℕ → List ℕ → List ℕ
 songWritten p n buffer =
     if isWrongP p then buffer else
@@ -65,7 +67,7 @@ songNumber (Thefts t) = none
 songNumber WrongPolyphony = some 1
 songNumber TooLong = some 25
 
--- "a refusal reports 0 thefts"
+-- R13.6: 0 thefts beside a number
 abbrev pub theftsIn : SongAnswer → ℕ
 theftsIn (Thefts t) = t
 theftsIn WrongPolyphony = 0

@@ -1,5 +1,6 @@
-// The hardest song of n bytes (document 02, ticket 14): written into a lent buffer and played on a fresh device while it is written, with its thefts counted. That
-// no song of n bytes makes more is stated and proved in crate `hardest`. Assumes nothing.
+// The hardest song of n bytes (R13.3 to R13.6): written into a lent buffer and played on a fresh device while it is
+// written, with its thefts counted. That no song of n bytes makes more is stated and proved in crate `hardest`.
+// Assumes nothing.
 ghost use mathlib.Core.Path.{_≡_};
 ghost use Prim.Native.Nat.{_≤_};
 ghost use Rattle.loops.specs.Cases.{bit};

@@ -1,5 +1,7 @@
--- The program `hardest_song`: a request a line, `P,n` in decimal. For each a line `number,thefts` on standard error, what `songAnswer P n` answers, and on standard output
--- the listing program's input: P, the own ID 0, and the song (of several lines one behind the other; the listing program takes one). All text is ASCII, and every line ends with byte 0AH.
+-- R17.2, R17.3: the program `hardest_song`: a request a line, `P,n` in decimal. For each a line `number,thefts` on
+-- standard error, what `songAnswer P n` answers, and on standard output the listing program's input: P, the own ID 0,
+-- and the song (of several lines one behind the other; the listing program takes one). All text is ASCII, and every
+-- line ends with byte 0AH.
 use Prim.Native.Nat.{ℕ, _≤_}
 use mathlib.Core.Path.{_≡_}
 use mathlib.Core.Bool.{Bool, _&&_}

@@ -1,2 +1,2 @@
--- What a byte means: MIDI 1.0 as document 01, "Bytes", has it.
+-- What a byte means: MIDI 1.0 as section 4 of docs/RULES.md has it.
 pub mod Split

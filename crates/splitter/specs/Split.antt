@@ -1,6 +1,7 @@
--- Document 01, "Bytes": how a stream of bytes is split into messages. Pure MIDI 1.0: nothing here knows a polyphony, an own ID or a table.
--- A parser holds the status byte in force (0: none), how many data bytes have come since, and these bytes; of a SysEx the first 37, counted to 37, since no message
--- that counts is longer than 36.
+-- Rules R4.1 to R4.14: how a stream of bytes is split into messages. Pure MIDI 1.0: nothing here knows a polyphony,
+-- an own ID or a table.
+-- R4.14: a parser holds the status byte in force (0: none), how many data bytes have come since, and these bytes; of
+-- a SysEx the first 37, counted to 37, since no message that counts is longer than 36.
 use Prim.Native.Nat.{ℕ, _+_}
 use mathlib.Core.Bool.{Bool, _&&_, _||_, not}
 use mathlib.Core.List.{List}
@@ -17,7 +18,7 @@ use Rattle.splitter.specs.declared.Split.{Split}
 unfoldable pub begun : ℕ → Parser
 begun b = record { status = b; count = 0; bytes = replicate 37 0 }
 
--- no status in force: the parser of a fresh record
+-- R1.10: no status in force, the parser of a fresh record
 abbrev pub quiet : Parser
 quiet = begun 0
 
@@ -35,37 +36,39 @@ inSysEx p = eqb (p .status) 0xF0
 abbrev pub body : Parser → List ℕ
 body p = take (p .count) (p .bytes)
 
--- "C0 and D0 kinds have one data byte, the others two"; "F1 and F3 swallow one data byte, F2 two"
+-- R4.3, R4.7: how many data bytes a status takes, one or two
 unfoldable pub oneDataByte : ℕ → Bool
 oneDataByte s = leb 0xC0 s && ltb s 0xE0 || (eqb s 0xF1 || eqb s 0xF3)
 
--- whether the next data byte is the last that the status in force takes; a SysEx takes any number of them
+-- whether the next data byte is the last that the status in force takes; R4.6: a SysEx takes any number of them
 abbrev pub atLast : Parser → Bool
 atLast p = not (inSysEx p) && (oneDataByte (p .status) || not (eqb (p .count) 0))
 
--- the data byte that completes a message, or ends what F1 to F3 swallow; running status stays
+-- R4.2: the data byte that completes a message, after which the status stays in force; R4.7: or the last that F1 to
+-- F3 swallow, after which none is
 unfoldable pub completed : Parser → ℕ → Split
 completed p b =
     let one = oneDataByte (p .status) in
     if leb 0xF0 (p .status) then record { parser = quiet; completed = Nothing } else
     record { parser = begun (p .status); completed = Message (p .status) (if one then b else getD (p .bytes) 0 0) (if one then 0 else b) }
 
--- a byte below 80; number 3: "data byte, no status or SysEx or swallowing"
+-- a byte below 80; R4.10: stray where no status is in force; R4.13: not the last one completes nothing
 unfoldable pub dataByte : Parser → ℕ → Split
 dataByte p b =
     if ltb (p .status) 0x80 then record { parser = p; completed = Stray } else
     if atLast p then completed p b else
     record { parser = stored p b; completed = Nothing }
 
--- a status from 80 to F7 replaces what was in force: 80 to EF are the running status, F0 opens a SysEx, F1 to F3 swallow, F4 to F7 leave none
+-- R4.2, R4.4, R4.5, R4.6, R4.7, R4.8: a status from 80 to F7 replaces what was in force: 80 to EF are the running
+-- status, F0 opens a SysEx, F1 to F3 swallow, F4 to F7 leave none
 unfoldable pub opened : ℕ → Parser
 opened b = begun (if ltb b 0xF4 then b else 0)
 
--- what status b completes where s was in force: F7 ends a SysEx; number 4: "SysEx cut by a status below F7"
+-- what status b completes where s was in force: R4.6: F7 ends a SysEx; R4.9: a status below F7 cuts it
 unfoldable pub ended : ℕ → ℕ → Completed
 ended s b = if eqb s 0xF0 then if eqb b 0xF7 then SysEx else Cut else Nothing
 
--- a byte from 80 on; "F8 to FF: no effect anywhere"
+-- a byte from 80 on; R4.1: F8 to FF leave all as it is
 unfoldable pub statusByte : Parser → ℕ → Split
 statusByte p b =
     if leb 0xF8 b then record { parser = p; completed = Nothing } else
@@ -75,7 +78,7 @@ statusByte p b =
 unfoldable pub split : Parser → ℕ → Split
 split p b = if ltb b 0x80 then dataByte p b else statusByte p b
 
--- the number of document 01 for what a byte completed, where it has one
+-- R8.3, R8.4: the number of what a byte completed, where it has one
 abbrev pub numberOf : Completed → Option ℕ
 numberOf Nothing = none
 numberOf Stray = some 3

@@ -1,4 +1,5 @@
-// What a byte means: a stream of MIDI bytes split into messages (document 01, "Bytes"), by value, for every parser value and every byte.
+// What a byte means: a stream of MIDI bytes split into messages (rules R4.1 to R4.14), by value, for every parser
+// value and every byte.
 // It knows neither the polyphony nor the own ID nor the table. Assumes nothing.
 ghost use mathlib.Core.Path.{_≡_};
 ghost use Rattle.splitter.specs.Split.{begun, quiet, stored, oneDataByte, atLast, completed, dataByte, ended, split};

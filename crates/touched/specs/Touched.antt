@@ -9,7 +9,7 @@ use Rattle.playing.specs.declared.Answer.{Answer}
 use Rattle.playing.specs.declared.Answer.the-variants as answer
 use Rattle.touched.specs.declared.Key.{Key}
 
--- by "Bytes" of document 01 these complete nothing, or are numbers 3 and 4
+-- these complete nothing (R4.13), or are numbers 3 and 4 (R4.9, R4.10)
 abbrev pub isQuiet : Completed → Bool
 isQuiet completed.Nothing = true
 isQuiet completed.Stray = true
