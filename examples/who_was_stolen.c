@@ -1,5 +1,5 @@
 /*
- * Plays some MIDI bytes to a module of two generators and prints who was stolen: the sample of document 01's listing. The record is copied before each byte,
+ * Plays some MIDI bytes to a module of two generators and prints who was stolen: the example of the listing program. The record is copied before each byte,
  * so that the copy can be asked who held the generator that a note took.
  */
 #include <stdio.h>

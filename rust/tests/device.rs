@@ -1,4 +1,4 @@
-//! The device from Rust: document 01's examples through the linked library.
+//! The device from Rust: the examples of docs/RULES.md through the linked library.
 use muntinorris::{Answer, Device, Generator, Refused, State, Was};
 
 fn play(device: &mut Device, bytes: &[u8]) -> Vec<Answer> {
@@ -66,7 +66,7 @@ fn a_copy_is_a_device_of_its_own() {
     assert_eq!(device, copy);
 }
 
-/// Each number that a byte can answer, under document 01's condition for it.
+/// Each number that a byte can answer, under its condition (R8.3 to R8.11).
 #[test]
 fn numbers_of_bytes() {
     let mip = [0xF0, 0x7F, 0x7F, 0x0B, 0x01];

@@ -1,4 +1,4 @@
-//! The service page over the library: a page that is written out here from document 02's words; buffers of every length; and pages of many devices, held line by line against the queries.
+//! The service page over the library: a page that is written out here from R15.1 to R15.7; buffers of every length; and pages of many devices, held line by line against the queries.
 use muntinorris::{Device, Refused, State, PAGE_BYTES};
 
 fn played(polyphony: u8, bytes: &[u8]) -> Device {

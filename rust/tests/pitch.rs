@@ -1,4 +1,4 @@
-//! Pitches over the library, held against document 02's words computed anew with integers that have a sign.
+//! Pitches over the library, held against R11.1 to R11.3 computed anew with integers that have a sign.
 use muntinorris::{pitch, Pitch, Refused};
 
 /// The position, by the paper: `div_euclid` is the floor for a positive divisor.

@@ -1,4 +1,4 @@
-//! The hardest song over the library: played anew on a device it makes as many thefts as the call told, and as many as document 02 says; no more bytes than it should are written.
+//! The hardest song over the library: played anew on a device it makes as many thefts as the call told, and as many as R13.1 says; no more bytes than it should are written.
 use muntinorris::{write_song, Answer, Device, Refused, Was};
 
 /// The thefts of a list of bytes on a fresh device.
@@ -7,7 +7,7 @@ fn thefts(polyphony: u8, id: u8, bytes: &[u8]) -> u32 {
     bytes.iter().map(|b| u32::from(matches!(device.byte(*b), Answer::Note { was: Was::Stolen, .. }))).sum()
 }
 
-/// Document 02, ticket 14.
+/// R13.1.
 fn most(polyphony: u8, n: usize) -> u32 {
     (n.saturating_sub(1) / 2).saturating_sub(usize::from(polyphony)) as u32
 }
