@@ -47,8 +47,9 @@
  * last one. Where bytes and reports come from two threads, compare and report under the lock that muntinorris_byte is
  * called under.
  *
- * The machine. libmuntinorris.a is for programs on x86-64 Linux. A byte takes up to some 2.5 KB of stack, a report 1.5
- * KB; calls that take more say so below, and docs/PERFORMANCE.md has all figures.
+ * The machine. libmuntinorris.a is for programs on x86-64 Linux, on any such processor. It is some 31 KB of code and
+ * constants, has no data, and calls memcpy and memset of the C library and nothing else. A byte takes up to some 2.5 KB
+ * of stack, a report 1.5 KB; calls that take more say so below, and docs/PERFORMANCE.md has all figures.
  *
  * Channels are 1 to 16, as musicians count them; the wire carries channel minus 1. "Document 01" is the specification,
  * "The note allocator of a scalable polyphony module", "document 02" the changes to it that were asked for. Every call
