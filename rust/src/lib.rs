@@ -1,5 +1,6 @@
-//! Safe Rust over Muntinorris, the note allocator of a scalable polyphony module (document 01). Each call is proved, in the library, to give exactly the
-//! answer and the record of its definition, for every value of the record, gains to within a millionth; what is trusted here is that the structs below are those of
+//! Safe Rust over Muntinorris, the note allocator of a scalable polyphony module (document 01). Each call is proved, in
+//! the library, to give exactly the answer and the record of its definition in the repository's specs/, for every value
+//! of the record, gains to within a millionth; what is trusted here is that the structs below are those of
 //! include/muntinorris.h, which the repository's tests hold against the library.
 //!
 //! ```
@@ -11,6 +12,40 @@
 //! assert_eq!(answers[2], Answer::Note { channel: 1, key: 60, generator: 0, was: Was::Idle });
 //! assert_eq!(answers[5], Answer::Note { channel: 10, key: 36, generator: 0, was: Was::Stolen });
 //! ```
+//!
+//! # What a driver does with an answer
+//!
+//! Generators change with [`Answer::Done`] and [`Answer::Note`] and with no other answer. A note names its own
+//! generator; which others are to be released or muted is seen by comparing the states with those of the last look. The
+//! generator of a note is cut off and begun anew, whatever it was: one that was idle may be a drum that the note has
+//! just shut off. The velocity is the byte that was just passed.
+//!
+//! ```
+//! use muntinorris::{Answer, Device, State};
+//!
+//! let (mut device, _) = Device::start(4, 0);
+//! let mut seen = [State::Idle; 4];
+//! let (mut to_release, mut to_mute) = (vec![], vec![]);
+//! // Two keys, the first of them struck again and let go; a crash cymbal, and channel 10 silenced.
+//! for byte in [0x90, 60, 64, 64, 64, 60, 64, 60, 0, 0x99, 49, 64, 0xB9, 120, 0] {
+//!     if !matches!(device.byte(byte), Answer::Done | Answer::Note { .. }) {
+//!         continue;
+//!     }
+//!     for g in 0..4 {
+//!         let now = device.generator(g).unwrap().state;
+//!         match (seen[g as usize] == now, now) {
+//!             (false, State::Releasing) => to_release.push(g),
+//!             (false, State::Idle) => to_mute.push(g),
+//!             _ => {}
+//!         }
+//!         seen[g as usize] = now;
+//!     }
+//! }
+//! assert_eq!((to_release, to_mute), (vec![0, 2], vec![3]));
+//! ```
+//!
+//! Drums stay busy until [`Device::report`] says that they have ended: their note-offs change nothing. A report names a
+//! generator and not a note: see there for one that comes late.
 use std::mem::MaybeUninit;
 
 pub mod record;
@@ -68,8 +103,8 @@ pub struct Pitch {
     pub entry: u32,
 }
 
-/// The gains of a channel: what the mixer multiplies its samples by. Each is a number from 0 to 1, within one millionth of the exact fraction, and 0
-/// where that is 0.
+/// The gains of a channel: what the mixer multiplies its samples by. Each is a number from 0 to 1, within one millionth
+/// of the exact fraction, and 0 where that is 0.
 #[derive(Clone, Copy, Debug, PartialEq)]
 pub struct Gains {
     pub left: f32,
@@ -83,13 +118,14 @@ pub struct MipMessage {
     pub lines: u64,
 }
 
-/// The number of a refused query, 12 or 14, of a refused order, 16, of a log so far, 15 or 17, of a page without room, 18, of a refused pitch, 21, of refused gains, 24, or of a refused
-/// song, 1 or 25.
+/// The number of a refused query, 12 or 14, of a refused order, 16, of a log so far, 15 or 17, of a page without room,
+/// 18, of a refused pitch, 21, of refused gains, 24, or of a refused song, 1 or 25.
 #[derive(Clone, Copy, Debug, PartialEq, Eq)]
 pub struct Refused(pub u8);
 
-/// A log that gives no message. The number: 15, a line of another form; 16, an order that is not all sixteen channels once; 17, a line at which a MIP message for device 7F or 0
-/// ends, a note is stolen or number 11 falls. The line that it fell at, from 1; 0 with 16.
+/// A log that gives no message. The number: 15, a line of another form; 16, an order that is not all sixteen channels
+/// once; 17, a line at which a MIP message for device 7F or 0 ends, a note is stolen or number 11 falls. The line that
+/// it fell at, from 1; 0 with 16.
 #[derive(Clone, Copy, Debug, PartialEq, Eq)]
 pub struct RefusedLog {
     pub number: u8,
@@ -171,13 +207,28 @@ impl Device {
         (unsafe { device.assume_init() }, answer.into())
     }
 
-    /// A MIDI byte.
+    /// A MIDI byte. On a note it is the velocity.
     pub fn byte(&mut self, byte: u8) -> Answer {
-        // SAFETY: the pointer is to a device that nobody else has for the call; every value of it is a record. So below.
+        // SAFETY: the pointer is to a device that nobody else has for the call; every value of it is a record. So
+        // below.
         unsafe { muntinorris_byte(self, byte) }.into()
     }
 
-    /// The tone generator reports that a generator's sound has ended: `Done`, or number 12 or 13.
+    /// The tone generator reports that a generator's sound has ended: `Done`, or number 12 or 13. Whatever note the
+    /// generator has by then is ended. So a driver counts the notes that it begins on each generator, gets that count
+    /// back with the end, and drops a report whose count is not the last one:
+    ///
+    /// ```
+    /// use muntinorris::{Answer, Device, State};
+    ///
+    /// let (mut device, _) = Device::start(1, 0);
+    /// for byte in [0x90, 60, 64, 60, 0, 62, 64] {
+    ///     device.byte(byte);
+    /// }
+    /// // The end of key 60, told when key 62 has the generator already.
+    /// assert_eq!(device.report(0), Answer::Done);
+    /// assert_eq!(device.generator(0).unwrap().state, State::Idle);
+    /// ```
     pub fn report(&mut self, generator: u8) -> Answer {
         unsafe { muntinorris_report(self, generator) }.into()
     }
@@ -206,9 +257,11 @@ impl Device {
         answered(n.number, n.share)
     }
 
-    /// The service page, the state of the device as text, in the first [`PAGE_BYTES`] of a buffer; its other bytes stay. Number 18 for a shorter one, which is then untouched. Under a
-    /// head stand channels 1 to 16, a line each: channel, place in the order of the MIP table (from 1), value, share, `M` if masked else `-`, and busy generators, held or sustained.
-    /// Place and value of a channel that is not listed, and the share of a masked one, are filled with `-`.
+    /// The service page, the state of the device as text, in the first [`PAGE_BYTES`] of a buffer; its other bytes
+    /// stay. Number 18 for a shorter one, which is then untouched. Under a head stand channels 1 to 16, a line each:
+    /// channel, place in the order of the MIP table (from 1), value, share, `M` if masked else `-`, and busy
+    /// generators, held or sustained. Place and value of a channel that is not listed, and the share of a masked one,
+    /// are filled with `-`.
     ///
     /// ```
     /// use muntinorris::{Device, PAGE_BYTES};
@@ -224,12 +277,14 @@ impl Device {
     /// assert_eq!(device.page(&mut page[1..]).unwrap_err().0, 18);
     /// ```
     pub fn page(&self, page: &mut [u8]) -> Result<(), Refused> {
-        // SAFETY: the pointers are to a device, which the call reads and does not keep, and to as many bytes as the length says, which nobody else has for the call.
+        // SAFETY: the pointers are to a device, which the call reads and does not keep, and to as many bytes as the
+        // length says, which nobody else has for the call.
         answered(unsafe { muntinorris_page(self, page.as_mut_ptr(), page.len()) }, ())
     }
 }
 
-/// The pitch of a key, 0 to 127, with the sensitivity, 0 to 24 semitones, and the bend, 0 to 16383 with centre 8192, of its channel; number 21 where one is out of range.
+/// The pitch of a key, 0 to 127, with the sensitivity, 0 to 24 semitones, and the bend, 0 to 16383 with centre 8192, of
+/// its channel; number 21 where one is out of range.
 ///
 /// ```
 /// let a = muntinorris::pitch(69, 2, 8192).unwrap();
@@ -242,7 +297,8 @@ pub fn pitch(key: u8, sensitivity: u8, bend: u16) -> Result<Pitch, Refused> {
     answered(n.number, Pitch { octave: n.octave, entry: n.entry })
 }
 
-/// The gains left and right of a channel with this expression, volume and pan, each 0 to 127; number 24 where one is above. Pan 0 and 1 are full left, 64 is the centre, 127 full right.
+/// The gains left and right of a channel with this expression, volume and pan, each 0 to 127; number 24 where one is
+/// above. Pan 0 and 1 are full left, 64 is the centre, 127 full right.
 ///
 /// ```
 /// let full_left = muntinorris::gains(127, 127, 1).unwrap();
@@ -255,7 +311,8 @@ pub fn gains(expression: u8, volume: u8, pan: u8) -> Result<Gains, Refused> {
 }
 
 impl Channel {
-    /// The gains of a channel by its numbers in the record; number 24 where one of them is above 127, which no call makes.
+    /// The gains of a channel by its numbers in the record; number 24 where one of them is above 127, which no call
+    /// makes.
     ///
     /// ```
     /// let (mut device, _) = muntinorris::Device::start(64, 0);
@@ -271,8 +328,9 @@ impl Channel {
     }
 }
 
-/// Writes the hardest song of `n` bytes for a fresh device of this polyphony into the buffer's first `n` bytes, and gives its thefts, counted while it is played: without reports
-/// no `n` bytes make more. Number 1 for a polyphony that is not 1 to 64, else 25 for `n` above 65,536 or above the buffer's length; the buffer is then untouched.
+/// Writes the hardest song of `n` bytes for a fresh device of this polyphony into the buffer's first `n` bytes, and
+/// gives its thefts, counted while it is played: without reports no `n` bytes make more. Number 1 for a polyphony that
+/// is not 1 to 64, else 25 for `n` above 65,536 or above the buffer's length; the buffer is then untouched.
 ///
 /// ```
 /// let mut song = [0; 9];
@@ -286,7 +344,8 @@ pub fn write_song(polyphony: u8, n: usize, song: &mut [u8]) -> Result<u32, Refus
     answered(a.number, a.thefts)
 }
 
-/// A log in parts of any length, so that it may be longer than memory: the message is the one that [`mip_from_log`] gives for all parts together, however they are cut.
+/// A log in parts of any length, so that it may be longer than memory: the message is the one that [`mip_from_log`]
+/// gives for all parts together, however they are cut.
 ///
 /// ```
 /// use muntinorris::Log;
@@ -303,28 +362,33 @@ impl Log {
     /// A log with this order of all sixteen channels, 1 to 16, by falling priority; number 16 for any other list.
     pub fn begin(order: &[u8]) -> Result<Log, Refused> {
         let mut log = MaybeUninit::uninit();
-        // SAFETY: the pointers are to memory for a log, all of whose fields the call writes without reading them, and to as many bytes as the length says.
+        // SAFETY: the pointers are to memory for a log, all of whose fields the call writes without reading them, and
+        // to as many bytes as the length says.
         let number = unsafe { muntinorris_log_begin(log.as_mut_ptr(), order.as_ptr(), order.len()) };
         answered(number, unsafe { log.assume_init() })
     }
 
-    /// One part more, cut anywhere; number 15 or 17 if one has fallen so far, after which nothing is looked at any more.
+    /// One part more, cut anywhere; number 15 or 17 if one has fallen so far, after which nothing is looked at any
+    /// more.
     pub fn part(&mut self, part: &[u8]) -> Result<(), Refused> {
-        // SAFETY: the pointers are to a log that nobody else has for the call, every value of which is a record, and to as many bytes as the length says.
+        // SAFETY: the pointers are to a log that nobody else has for the call, every value of which is a record, and to
+        // as many bytes as the length says.
         let number = unsafe { muntinorris_log_part(self, part.as_ptr(), part.len()) };
         answered(number, ())
     }
 
-    /// The message of the log as far as it was given, or its number and line; a last line without 0AH is of another form. The log may be gone on with.
+    /// The message of the log as far as it was given, or its number and line; a last line without 0AH is of another
+    /// form. The log may be gone on with.
     pub fn end(&self) -> Result<MipMessage, RefusedLog> {
         // SAFETY: the pointer is to a log, which the call reads and does not keep.
         unsafe { muntinorris_log_end(self) }.into()
     }
 }
 
-/// The MIP message of a song, from its log and an order of all sixteen channels, 1 to 16, by falling priority; else the number, and the line that it fell at. A line of the log is
-/// `b,` and a MIDI byte or `e,` and a generator that is reported, 0 to 63, in decimal, each ended by 0AH. The value of a channel is the largest number of generators that were busy
-/// together, after some line, on it and the channels before it.
+/// The MIP message of a song, from its log and an order of all sixteen channels, 1 to 16, by falling priority; else the
+/// number, and the line that it fell at. A line of the log is `b,` and a MIDI byte or `e,` and a generator that is
+/// reported, 0 to 63, in decimal, each ended by 0AH. The value of a channel is the largest number of generators that
+/// were busy together, after some line, on it and the channels before it.
 ///
 /// ```
 /// use muntinorris::{mip_from_log, RefusedLog};

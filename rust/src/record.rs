@@ -1,4 +1,5 @@
-//! The structs of include/muntinorris.h, field by field. A record can be read and copied; only a start, or the begin of a log, makes one, and only the calls change it.
+//! The structs of include/muntinorris.h, field by field. A record can be read and copied; only a start, or the begin of
+//! a log, makes one, and only the calls change it.
 
 /// Between two bytes: the status byte in force, 0 for none, the number of data bytes since, and these bytes.
 #[repr(C)]
@@ -50,7 +51,7 @@ pub struct Ages {
     pub generator: [u8; 64],
 }
 
-/// The generators, by their number.
+/// The generators, by their number. A state is 0 idle, 1 held, 2 sustained, 3 releasing.
 #[repr(C)]
 #[derive(Clone, Debug, PartialEq, Eq)]
 pub struct Generators {
@@ -104,7 +105,8 @@ pub struct Logged {
     /// After the lines so far.
     pub device: Device,
     pub order: [u8; 16],
-    /// For each place of the order: the largest number of busy generators, after a line so far, on the channels up to it.
+    /// For each place of the order: the largest number of busy generators, after a line so far, on the channels up to
+    /// it.
     pub most: [u8; 16],
     /// Lines looked at so far.
     pub lines: u64,
@@ -196,7 +198,8 @@ pub struct MipNumbers {
     pub bytes: [u8; 38],
 }
 
-/// Each struct's size, and each field's place and size, in the names of the header: what the C test prints with the word `print`.
+/// Each struct's size, and each field's place and size, in the names of the header: what the C test prints with the
+/// word `print`.
 pub fn layout() -> String {
     let mut lines = String::new();
     macro_rules! lay {
