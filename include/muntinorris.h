@@ -51,11 +51,11 @@
  * constants, has no data, and calls memcpy and memset of the C library and nothing else. A byte takes up to some 2.5 KB
  * of stack, a report 1.5 KB; calls that take more say so below, and docs/PERFORMANCE.md has all figures.
  *
- * Channels are 1 to 16, as musicians count them; the wire carries channel minus 1. "Document 01" is the specification,
- * "The note allocator of a scalable polyphony module", "document 02" the changes to it that were asked for. Every call
- * is proved to give exactly the answer and the record of its definition in the repository's specs/, for every input; of
- * gains, which are floats, an answer within the definition's bound. That the definitions say what the documents say is
- * for readers to judge: docs/TRACE.md puts them side by side.
+ * Channels are 1 to 16, as musicians count them; the wire carries the channel minus 1. What the device does is written
+ * as numbered rules in the repository's docs/RULES.md: a rule has a number such as R5.9, and number n below is rule
+ * R8.n there. Every call is proved to give exactly the answer and the record of its definition in specs/, for every
+ * input; of gains, which are floats, an answer within the definition's bound. That the definitions say what the rules
+ * say is for readers to judge: each cites its rules, and docs/TRACE.md puts them side by side.
  */
 #ifndef MUNTINORRIS_H
 #define MUNTINORRIS_H
@@ -81,7 +81,7 @@ extern "C" {
 #define MUNTINORRIS_WAS_RELEASE 1 /* it was releasing: its note had ended */
 #define MUNTINORRIS_WAS_STOLEN 2  /* it was busy: its note is lost */
 
-/* The numbers of documents 01 and 02, and what each leaves behind. */
+/* The numbers, and what each leaves behind: rules R8.1 to R8.25. */
 #define MUNTINORRIS_BAD_POLYPHONY 1      /* start, song: the polyphony is not 1 to 64. A start leaves a fresh record of
                                           * polyphony 1 and own ID 0, a song the buffer as it was */
 #define MUNTINORRIS_BAD_ID 2             /* start: the own ID is above 126. The same */

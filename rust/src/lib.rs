@@ -1,4 +1,4 @@
-//! Safe Rust over Muntinorris, the note allocator of a scalable polyphony module (document 01). Each call is proved, in
+//! Safe Rust over Muntinorris, the note allocator of a scalable polyphony module. Each call is proved, in
 //! the library, to give exactly the answer and the record of its definition in the repository's specs/, for every value
 //! of the record, gains to within a millionth; what is trusted here is that the structs below are those of
 //! include/muntinorris.h, which the repository's tests hold against the library.
@@ -73,7 +73,7 @@ pub enum Answer {
     Note { channel: u8, key: u8, generator: u8, was: Was },
     /// Number 10 or 11: a note-on without a generator.
     NoNote { number: u8, channel: u8, key: u8 },
-    /// Any other number of document 01.
+    /// Any other number: number n is rule R8.n of docs/RULES.md.
     Number(u8),
 }
 
