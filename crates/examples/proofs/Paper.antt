@@ -16,7 +16,8 @@ use Rattle.table.specs.Table.{entry, tableOf, startTable, listed}
 use Rattle.shares.specs.declared.MaskAnswer.{MaskAnswer}
 use Rattle.shares.specs.declared.MaskAnswer.the-variants.{IsMasked, IsUnmasked}
 use Rattle.shares.specs.Shares.{sharesFrom, lookup, shareOf, maskAnswer, maskQuery, shareQuery}
-use Rattle.sysex.specs.SysEx.{isMip, isSystemOn, kindOf, pairs, faulty, judgedBy, judged}
+use Rattle.sysex.specs.SysEx.{isMip, isSystemOn, kindOf}
+use Rattle.mip.specs.Mip.{pairs, faulty, judgedBy, judged}
 use Rattle.drums.specs.Drums.{groupOf, excludes}
 use Rattle.ages.specs.Ages.{agesOf, newest}
 use Rattle.generators.specs.Generators.{assigned, silent}

@@ -3,14 +3,25 @@
 ghost use mathlib.Core.Path.{_≡_};
 ghost use Prim.Native.Nat.{_≤_};
 ghost use lib.ListN.{drop};
-ghost use Rattle.table.specs.Table.{pushed};
 ghost use Rattle.splitter.specs.Split.{body};
-ghost use Rattle.sysex.specs.SysEx.{pairs, refused, judgedPairs, judged};
+ghost use Rattle.mip.specs.Mip.{pairs, refused, judgedPairs, judged, pushed};
 use splitter::Parser;
-use sysex::Judged;
-use sysex::Verdict;
 use table::Entry;
 use table::Table;
+
+// Whether a MIP message replaces the table.
+pub enum Verdict {
+    // It does.
+    Accepted,
+    // It does not, with its number, 5 to 9.
+    Refused(u8),
+}
+
+// The table is the message's if it is accepted, and empty if not.
+pub struct Judged {
+    pub verdict: Verdict,
+    pub table: Table,
+}
 
 // A table of no entry.
 const EMPTY: Table = Table {

@@ -22,7 +22,8 @@ use Rattle.shares.specs.declared.Share.the-variants.{Masked, Units}
 use Rattle.shares.specs.Shares.{sharesFrom, lookup, isMasked}
 use Rattle.sysex.specs.declared.Kind.{Kind}
 use Rattle.sysex.specs.declared.Kind.the-variants as kind
-use Rattle.sysex.specs.SysEx.{kindOf, pairs}
+use Rattle.sysex.specs.SysEx.{kindOf}
+use Rattle.mip.specs.Mip.{pairs}
 use Rattle.drums.specs.Drums.{excludes}
 use Rattle.generators.specs.Generators.{Generator, at, isIdle, isHeld, isSustained}
 use Rattle.allocation.specs.Allocation.{isStolen}

@@ -20,9 +20,10 @@ use Rattle.message.specs.declared.Message.the-variants.{NoteOn, NoteOff, Contro
 use Rattle.message.specs.Message.{decode}
 use Rattle.sysex.specs.declared.Kind.{Kind}
 use Rattle.sysex.specs.declared.Kind.the-variants as kind
-use Rattle.sysex.specs.declared.Verdict.{Verdict}
-use Rattle.sysex.specs.declared.Verdict.the-variants.{Accepted, Refused}
-use Rattle.sysex.specs.SysEx.{kindOf, judged}
+use Rattle.sysex.specs.SysEx.{kindOf}
+use Rattle.mip.specs.declared.Verdict.{Verdict}
+use Rattle.mip.specs.declared.Verdict.the-variants.{Accepted, Refused}
+use Rattle.mip.specs.Mip.{judged}
 use Rattle.channels.specs.declared.Channel.{Channel}
 use Rattle.channels.specs.Channel.{fresh, withModulation, withVolume, withPan, withExpression, withHold, withRpn, dataEntry, reset, controlled, channelAt, replaced}
 use Rattle.channels.specs.Channel as of-channel

@@ -16,7 +16,8 @@ use Rattle.table.specs.Table.{entry, entriesOf, tableOf, startTable, listed}
 use Rattle.shares.specs.declared.MaskAnswer.the-variants.{IsMasked, IsUnmasked}
 use Rattle.shares.specs.declared.ShareAnswer.the-variants.{ShareIs}
 use Rattle.shares.specs.Shares.{sharesFrom, lookup, shareOf}
-use Rattle.sysex.specs.SysEx.{isMip, isSystemOn, kindOf, pairs, faulty, judged}
+use Rattle.sysex.specs.SysEx.{isMip, isSystemOn, kindOf}
+use Rattle.mip.specs.Mip.{pairs, faulty, judged}
 use Rattle.drums.specs.Drums.{groupOf, excludes}
 use Rattle.channels.specs.Channel as of-channel
 use Rattle.ages.specs.Ages.{agesOf, newest}

@@ -12,7 +12,7 @@ use mathlib.Core.Bool.{true, false}
 use Rattle.loops.specs.Passes.{padded}
 use Rattle.splitter.proofs.Sizes.{bytes-37}
 use Rattle.table.specs.Table.{entriesOf, tableOf}
-use Rattle.sysex.specs.SysEx.{pairs, faulty, judgedBy, judgedPairs}
+use Rattle.mip.specs.Mip.{pairs, faulty, judgedBy, judgedPairs}
 use Rattle.mip.proofs.Listed.{Marks, no-marks, mark-more, by-mark}
 use Rattle.mip.proofs.Pairs.{one-entry-more, not-a-channel, listed-twice, value-falls, good-pair, no-pair}
 use Rattle.mip.proofs.judge_pairs.Statement.{statement}
