@@ -14,24 +14,6 @@ pub enum Share {
     Units(u8),
 }
 
-// The answer to a query of a mask.
-pub enum MaskAnswer {
-    // The channel is masked.
-    IsMasked,
-    // The channel is unmasked.
-    IsUnmasked,
-    // Number 14: the channel is not 1 to 16.
-    NoSuchChannel,
-}
-
-// The answer to a query of a share.
-pub enum ShareAnswer {
-    // The channel's share, 0 if it is masked.
-    ShareIs(u8),
-    // Number 14: the channel is not 1 to 16.
-    NotAChannel,
-}
-
 // The share of channel c among P generators.
 pub fn share_of(t: Table, p: u8, c: u8) -> Share
     ensures { λ r. ⌜ r ≡ shareOf t p c ⌝ }

@@ -13,8 +13,6 @@ use Rattle.message.specs.Message.{decode}
 use Rattle.table.specs.declared.Entry.{Entry}
 use Rattle.table.specs.declared.Table.{Table}
 use Rattle.table.specs.Table.{entry, entriesOf, tableOf, startTable, listed}
-use Rattle.shares.specs.declared.MaskAnswer.the-variants.{IsMasked, IsUnmasked}
-use Rattle.shares.specs.declared.ShareAnswer.the-variants.{ShareIs}
 use Rattle.shares.specs.Shares.{sharesFrom, lookup, shareOf}
 use Rattle.sysex.specs.SysEx.{isMip, isSystemOn, kindOf}
 use Rattle.mip.specs.Mip.{pairs, faulty, judged}
@@ -38,7 +36,9 @@ use Rattle.device.specs.Device.{started, heard, byteTaken}
 use Rattle.events.specs.declared.Event.{Event}
 use Rattle.events.specs.declared.Event.the-variants.{Byte}
 use Rattle.events.specs.Events.{reportTaken, taken}
-use Rattle.queries.specs.Queries.{generatorQuery, deviceMask, deviceShare}
+use Rattle.queries.specs.declared.MaskAnswer.the-variants.{IsMasked, IsUnmasked}
+use Rattle.queries.specs.declared.ShareAnswer.the-variants.{ShareIs}
+use Rattle.queries.specs.Queries.{generatorQuery, maskQuery, shareQuery}
 use Rattle.log.specs.Log.{decimal}
 use Rattle.service.specs.Page.{inTwo, inThree, standingFrom, placeField, valueField, head, line, row, rowsTo, pageOf, pageText}
 use Rattle.note_book.specs.Demand3.{notesOn, after, Live, begin}
@@ -65,10 +65,10 @@ module _ (d : Device) (c : ℕ) (a : Agrees d c) where
   pub value-shown : field 6 3 c d ≡ valueField (standingFrom 1 c (entriesOf (d .instrument .table)))
   value-shown = a .value
 
-  pub mask-shown : deviceMask d c ≡ IsMasked → (field 14 1 c d ≡ 77 ∷ []) × (field 10 3 c d ≡ 45 ∷ 45 ∷ 45 ∷ [])
+  pub mask-shown : maskQuery d c ≡ IsMasked → (field 14 1 c d ≡ 77 ∷ []) × (field 10 3 c d ≡ 45 ∷ 45 ∷ 45 ∷ [])
   mask-shown m = (a .mark ∙ rw m refl, a .share ∙ rw m refl)
 
-  pub share-shown : (n : ℕ) → deviceMask d c ≡ IsUnmasked → deviceShare d c ≡ ShareIs n → (field 14 1 c d ≡ 45 ∷ []) × (field 10 3 c d ≡ inThree n)
+  pub share-shown : (n : ℕ) → maskQuery d c ≡ IsUnmasked → shareQuery d c ≡ ShareIs n → (field 14 1 c d ≡ 45 ∷ []) × (field 10 3 c d ≡ inThree n)
   share-shown n m s = (a .mark ∙ rw m refl, a .share ∙ rw (m, s) refl)
 
   pub notes-shown : field 16 2 c d ≡ inTwo (total (λ g. bit (isBusyTold (generatorQuery d g) && isOnTold c (generatorQuery d g))) 256)
