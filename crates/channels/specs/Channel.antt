@@ -197,13 +197,3 @@ controlled c n v =
     if eqb n 98 || eqb n 99 then withRpn c 127 127 else
     if eqb n 121 && eqb v 0 then reset c else
     stored c n v
-
--- the sixteen channels; the wire carries the channel minus 1, which is its place here
-abbrev pub freshChannels : List Channel
-freshChannels = replicate 16 fresh
-
-unfoldable pub channelAt : List Channel → ℕ → Channel
-channelAt l i = getD l i fresh
-
-unfoldable pub replaced : List Channel → ℕ → Channel → List Channel
-replaced l i c = set l i c

@@ -1,8 +1,7 @@
 // The record of the sound module without its parser: what acts on a whole message works on it (document 01, "The device record"). By value, for every
 // value. Assumes nothing.
 ghost use mathlib.Core.Path.{_≡_};
-ghost use Rattle.instrument.specs.Instrument.{fresh, channelOf, withChannel, withGenerators, pedalDown, isRhythm};
-ghost use Rattle.channels.specs.Channel.{replaced};
+ghost use Rattle.instrument.specs.Instrument.{fresh, replaced, channelOf, withChannel, withGenerators, pedalDown, isRhythm};
 use channels::Channel;
 use generators::Generators;
 use table::Table;

@@ -4,8 +4,8 @@ use mathlib.Core.Path.{_≡_, sym, ap, _∙_}
 use Prim.Native.Nat.{ℕ, _≤_, _-_}
 use native.Mathlib.Omega.{arith}
 use lib.ListN.{length, getD, List·getD-eq-default}
-use Rattle.channels.specs.Channel.{fresh, channelAt}
-use Rattle.instrument.specs.Instrument.{channelOf}
+use Rattle.channels.specs.Channel.{fresh}
+use Rattle.instrument.specs.Instrument.{channelAt, channelOf}
 use Rattle.instrument.proofs.Elements.{any-default}
 use Rattle.instrument.proofs.Sizes.{channels-16}
 use borrow.Author.Needs.{needs}
