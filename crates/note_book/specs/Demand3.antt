@@ -30,7 +30,7 @@ use Rattle.allocation.specs.Allocation.{isStolen}
 use Rattle.instrument.specs.declared.Instrument.{Instrument}
 use Rattle.playing.specs.declared.Answer.{Answer}
 use Rattle.playing.specs.declared.Answer.the-variants.{Nothing, Done, Note, NoNote, Number}
-use Rattle.other_messages.specs.OtherMessages.{liftsPedal, silencesAll, endsAll}
+use Rattle.controllers.specs.Controllers.{liftsPedal, silencesAll, endsAll}
 use Rattle.device.specs.declared.Device.{Device}
 use Rattle.device.specs.Device.{started}
 use Rattle.events.specs.declared.Event.{Event}

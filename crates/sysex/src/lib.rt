@@ -15,12 +15,12 @@ pub enum Kind {
     Other,
 }
 
-// What the SysEx of parser p is to the device with this own ID.
-pub fn kind_of(p: Parser, id: u8) -> Kind
-    ensures { λ r. ⌜ r ≡ kindOf id (body p) ⌝ }
+// What the SysEx of a parser is to the device with this own ID.
+pub fn kind_of(parser: Parser, id: u8) -> Kind
+    ensures { λ r. ⌜ r ≡ kindOf id (body parser) ⌝ }
 {
-    let n = p.count;
-    let l = p.bytes;
+    let n = parser.count;
+    let l = parser.bytes;
     if (4 <= n) & starts_with(id, 0x7F, 0x0B, 0x01, l) {
         return Kind::Mip;
     }

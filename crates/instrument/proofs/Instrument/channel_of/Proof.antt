@@ -43,7 +43,7 @@ returns-2 c =
     let s = b .before .before in
     let l = s .args .self .channels in
     let n = channels-16 (s .args .self) (s .good .0) in
-    let h : length l ≤ s .args .c - 1 = omega (arith, b .less .ensures) in
+    let h : length l ≤ s .args .channel - 1 = omega (arith, b .less .ensures) in
     c .fresh .ensures ∙ sym (List·getD-eq-default l fresh h)
 
 pub channel-of-spec : {M : Type 1} → statement M
