@@ -20,34 +20,18 @@ fn store(channel: Channel, n: u8, v: u8) -> Channel
 {
     let mut c = channel;
     match n {
-        1 => {
-            c.modulation = v;
-        }
-        6 => {
-            c.sensitivity = data_entry(channel, v);
-        }
-        7 => {
-            c.volume = v;
-        }
-        10 => {
-            c.pan = v;
-        }
-        11 => {
-            c.expression = v;
-        }
-        64 => {
-            c.hold = v;
-        }
+        1 => c.modulation = v,
+        6 => c.sensitivity = data_entry(channel, v),
+        7 => c.volume = v,
+        10 => c.pan = v,
+        11 => c.expression = v,
+        64 => c.hold = v,
         98 | 99 => {
             c.rpn_msb = Channel::RPN;
             c.rpn_lsb = Channel::RPN;
         }
-        100 => {
-            c.rpn_lsb = v;
-        }
-        101 => {
-            c.rpn_msb = v;
-        }
+        100 => c.rpn_lsb = v,
+        101 => c.rpn_msb = v,
         _ => {}
     }
     c
