@@ -24,10 +24,11 @@ use Rattle.table.specs.Table.{listed}
 use Rattle.shares.specs.Shares.{isMasked, shareOf}
 use Rattle.sysex.specs.declared.Kind.{Kind}
 use Rattle.sysex.specs.declared.Kind.the-variants.{Mip, SystemOn, Other}
-use Rattle.sysex.specs.declared.Verdict.{Verdict}
-use Rattle.sysex.specs.declared.Verdict.the-variants.{Accepted, Refused}
-use Rattle.sysex.specs.SysEx.{kindOf, pairs, faulty, judgedBy, judged}
-use Rattle.sysex.specs.SysEx as judging
+use Rattle.sysex.specs.SysEx.{kindOf}
+use Rattle.mip.specs.declared.Verdict.{Verdict}
+use Rattle.mip.specs.declared.Verdict.the-variants.{Accepted, Refused}
+use Rattle.mip.specs.Mip.{pairs, faulty, judgedBy, judged}
+use Rattle.mip.specs.Mip as judging
 use Rattle.generators.specs.declared.Generators.{Generators}
 use Rattle.generators.specs.Generators.{at, isIdle}
 use Rattle.releases.specs.declared.Change.the-variants.{NoteOff}

@@ -23,8 +23,9 @@ use Rattle.table.specs.Table.{entriesOf, tableOf, listed}
 use Rattle.table.specs.Laws.{Rising, Distinct, Channels}
 use Rattle.table.proofs.Places.{entries-of-table}
 use Rattle.sysex.specs.declared.Kind.the-variants.{Mip}
-use Rattle.sysex.specs.declared.Verdict.the-variants.{Accepted}
-use Rattle.sysex.specs.SysEx.{isMip, kindOf, pairs, faulty, judged}
+use Rattle.sysex.specs.SysEx.{isMip, kindOf}
+use Rattle.mip.specs.declared.Verdict.the-variants.{Accepted}
+use Rattle.mip.specs.Mip.{pairs, faulty, judged}
 use Rattle.instrument.specs.declared.Instrument.{Instrument}
 use Rattle.playing.specs.declared.Answer.{Answer}
 use Rattle.playing.specs.declared.Answer.the-variants as answer

@@ -19,9 +19,10 @@ use Rattle.message.specs.Message.{decode}
 use Rattle.table.specs.declared.Table.{Table}
 use Rattle.sysex.specs.declared.Kind.{Kind}
 use Rattle.sysex.specs.declared.Kind.the-variants.{Mip, SystemOn, Other}
-use Rattle.sysex.specs.declared.Verdict.{Verdict}
-use Rattle.sysex.specs.declared.Verdict.the-variants.{Accepted, Refused}
-use Rattle.sysex.specs.SysEx.{kindOf, judged}
+use Rattle.sysex.specs.SysEx.{kindOf}
+use Rattle.mip.specs.declared.Verdict.{Verdict}
+use Rattle.mip.specs.declared.Verdict.the-variants.{Accepted, Refused}
+use Rattle.mip.specs.Mip.{judged}
 use Rattle.generators.specs.Generators.{at, isBusy, isIdle, silent}
 use Rattle.allocation.specs.declared.Taken.{Taken}
 use Rattle.allocation.specs.declared.Taken.the-variants as took

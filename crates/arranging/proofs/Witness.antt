@@ -9,7 +9,8 @@ use Rattle.splitter.specs.Split.{begun, stored, oneDataByte, completed, dataByt
 use Rattle.message.specs.Message.{decode}
 use Rattle.table.specs.Table.{tableOf, startTable, listed}
 use Rattle.shares.specs.Shares.{sharesFrom, lookup, shareOf}
-use Rattle.sysex.specs.SysEx.{isMip, isSystemOn, kindOf, pairs, faulty, judged}
+use Rattle.sysex.specs.SysEx.{isMip, isSystemOn, kindOf}
+use Rattle.mip.specs.Mip.{pairs, faulty, judged}
 use Rattle.drums.specs.Drums.{groupOf, excludes}
 use Rattle.ages.specs.Ages.{agesOf, newest}
 use Rattle.generators.specs.Generators.{assigned, silent}

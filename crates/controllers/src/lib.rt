@@ -1,17 +1,38 @@
-// What controllers do to a channel's numbers (document 01, "Other messages"), by value, for every value. Masks are no matter here: a masked channel's
-// controllers are stored like any other's. Assumes nothing.
+// What controllers do to a channel's numbers, and which of them end notes (document 01, "Other messages"), by value, for every value. Masks are no matter
+// here: a masked channel's controllers are stored like any other's. What becomes of the notes is in crate other_messages. Assumes nothing.
 ghost use mathlib.Core.Path.{_≡_};
-ghost use Rattle.channels.specs.Channel.{dataEntry, reset, stored, controlled};
+ghost use Rattle.controllers.specs.Controllers.{dataEntry, stored, reset, controlled, liftsPedal, silencesAll, endsAll};
 use channels::Channel;
 
-// Data Entry MSB: bend sensitivity is the only registered parameter here. Its LSB, controller 38, changes nothing, nor does controller 32.
-fn data_entry(channel: Channel, v: u8) -> Channel
+// The sensitivity after Data Entry MSB: bend sensitivity is the only registered parameter here. Its LSB, controller 38, changes nothing, nor does controller 32.
+fn data_entry(channel: Channel, v: u8) -> u8
     ensures { λ r. ⌜ r ≡ dataEntry channel v ⌝ }
 {
-    let mut c = channel;
     if (channel.rpn_msb == 0) & (channel.rpn_lsb == 0) {
-        c.sensitivity = loops::at_most(Channel::SENSITIVITY_LIMIT, v);
-        return c;
+        return loops::at_most(Channel::SENSITIVITY_LIMIT, v);
+    }
+    channel.sensitivity
+}
+
+// A non-registered parameter number, 98 or 99, takes the registered one out of use.
+fn store(channel: Channel, n: u8, v: u8) -> Channel
+    ensures { λ r. ⌜ r ≡ stored channel n v ⌝ }
+{
+    let mut c = channel;
+    match n {
+        1 => c.modulation = v,
+        6 => c.sensitivity = data_entry(channel, v),
+        7 => c.volume = v,
+        10 => c.pan = v,
+        11 => c.expression = v,
+        64 => c.hold = v,
+        98 | 99 => {
+            c.rpn_msb = Channel::RPN;
+            c.rpn_lsb = Channel::RPN;
+        }
+        100 => c.rpn_lsb = v,
+        101 => c.rpn_msb = v,
+        _ => {}
     }
     c
 }
@@ -31,60 +52,33 @@ fn reset(channel: Channel) -> Channel
     c
 }
 
-// The controllers that are stored as they come; every other one, 38 and 121 among them, changes nothing here.
-fn store(channel: Channel, n: u8, v: u8) -> Channel
-    ensures { λ r. ⌜ r ≡ stored channel n v ⌝ }
-{
-    let mut c = channel;
-    match n {
-        1 => {
-            c.modulation = v;
-            return c;
-        }
-        7 => {
-            c.volume = v;
-            return c;
-        }
-        10 => {
-            c.pan = v;
-            return c;
-        }
-        11 => {
-            c.expression = v;
-            return c;
-        }
-        64 => {
-            c.hold = v;
-            return c;
-        }
-        100 => {
-            c.rpn_lsb = v;
-            return c;
-        }
-        101 => {
-            c.rpn_msb = v;
-            return c;
-        }
-        _ => {}
-    }
-    c
-}
-
-// Controller n with value v: a non-registered parameter number, 98 or 99, takes the registered one out of use.
+// The channel's numbers after controller n with value v.
 pub fn control(channel: Channel, n: u8, v: u8) -> Channel
     ensures { λ r. ⌜ r ≡ controlled channel n v ⌝ }
 {
-    if n == 6 {
-        return data_entry(channel, v);
-    }
-    if (n == 98) | (n == 99) {
-        let mut c = channel;
-        c.rpn_msb = Channel::RPN;
-        c.rpn_lsb = Channel::RPN;
-        return c;
-    }
     if (n == 121) & (v == 0) {
         return reset(channel);
     }
     store(channel, n, v)
+}
+
+// Whether it lifts the pedal: hold, or Reset All Controllers.
+pub fn lifts_pedal(n: u8, v: u8) -> bool
+    ensures { λ r. ⌜ r ≡ liftsPedal n v ⌝ }
+{
+    ((n == 64) & (v < 64)) | ((n == 121) & (v == 0))
+}
+
+// Whether it ends every note of the channel at once: All Sound Off.
+pub fn silences_all(n: u8, v: u8) -> bool
+    ensures { λ r. ⌜ r ≡ silencesAll n v ⌝ }
+{
+    (n == 120) & (v == 0)
+}
+
+// Whether it is a note-off for each key of the channel: All Notes Off.
+pub fn ends_all(n: u8, v: u8) -> bool
+    ensures { λ r. ⌜ r ≡ endsAll n v ⌝ }
+{
+    (n == 123) & (v == 0)
 }

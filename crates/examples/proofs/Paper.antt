@@ -14,10 +14,9 @@ use Rattle.loops.specs.Passes.{upTo, total, filterBy, firstOf, padded}
 use Rattle.splitter.specs.Split.{quiet, begun, stored, oneDataByte, completed, dataByte, opened, ended, statusByte, split}
 use Rattle.message.specs.Message.{decode}
 use Rattle.table.specs.Table.{entry, tableOf, startTable, listed}
-use Rattle.shares.specs.declared.MaskAnswer.{MaskAnswer}
-use Rattle.shares.specs.declared.MaskAnswer.the-variants.{IsMasked, IsUnmasked}
-use Rattle.shares.specs.Shares.{sharesFrom, lookup, shareOf, maskAnswer, maskQuery, shareQuery}
-use Rattle.sysex.specs.SysEx.{isMip, isSystemOn, kindOf, pairs, faulty, judgedBy, judged}
+use Rattle.shares.specs.Shares.{sharesFrom, lookup, shareOf}
+use Rattle.sysex.specs.SysEx.{isMip, isSystemOn, kindOf}
+use Rattle.mip.specs.Mip.{pairs, faulty, judgedBy, judged}
 use Rattle.drums.specs.Drums.{groupOf, excludes}
 use Rattle.ages.specs.Ages.{agesOf, newest}
 use Rattle.generators.specs.Generators.{assigned, silent}
@@ -33,7 +32,9 @@ use Rattle.playing.specs.Playing.{playNoteOn, played}
 use Rattle.device.specs.declared.Device.{Device}
 use Rattle.device.specs.Device.{freshDevice, freshOutput, outputOf, started, heard, byteTaken}
 use Rattle.exclusive.specs.Exclusive.{newTable, judgedReply, mipTaken, exclusive}
-use Rattle.queries.specs.Queries.{generatorQuery, deviceMask}
+use Rattle.queries.specs.declared.MaskAnswer.{MaskAnswer}
+use Rattle.queries.specs.declared.MaskAnswer.the-variants.{IsMasked, IsUnmasked}
+use Rattle.queries.specs.Queries.{generatorQuery, maskAnswer, maskQuery, shareQuery}
 use Rattle.examples.specs.Examples.{after, Seen, mask, mip, maskBy, P1, P2, P3, P4, P5, P6, P7, P8, P9, computed, printed}
 use Rattle.examples.specs.Examples as example
 
@@ -59,15 +60,15 @@ module _ (p v : ℕ) where
       outputOf (q .parser) (heard (opened-mip .instrument) (opened-mip .parser) (q .completed)) .device) (lt-ltb v 128 h)
 
   -- it isn't below the value before it, of which there is none
-  accepted-mip : deviceMask (byteTaken valued 0xF7 .device) 1 ≡ maskQuery (tableOf (entry 1 v ∷ [])) p 1
-  unfolding begun stored oneDataByte dataByte opened ended statusByte split listed isMip isSystemOn kindOf pairs faulty judged fresh newTable mipTaken exclusive heard byteTaken
+  accepted-mip : maskQuery (byteTaken valued 0xF7 .device) 1 ≡ maskAnswer (shareOf (tableOf (entry 1 v ∷ [])) p 1)
+  unfolding begun stored oneDataByte dataByte opened ended statusByte split listed isMip isSystemOn kindOf pairs faulty judged fresh newTable mipTaken exclusive heard byteTaken maskQuery
   accepted-mip =
       ap (λ (t : Bool). let j = judgedBy (entry 1 v ∷ []) (if t then some 9 else none) in
-      deviceMask (record { parser = quiet; instrument = judgedReply (fresh p 0) (j .verdict) (j .table) .instrument }) 1) (le-ltb v 0 (omega arith))
+      maskQuery (record { parser = quiet; instrument = judgedReply (fresh p 0) (j .verdict) (j .table) .instrument }) 1) (le-ltb v 0 (omega arith))
 
   -- the channel has its value for a share, or is masked
-  one-channel : (t : Bool) → leb v p ≡ t → maskQuery (tableOf (entry 1 v ∷ [])) p 1 ≡ (if t then IsUnmasked else IsMasked)
-  unfolding padded tableOf sharesFrom lookup shareOf maskQuery
+  one-channel : (t : Bool) → leb v p ≡ t → maskAnswer (shareOf (tableOf (entry 1 v ∷ [])) p 1) ≡ (if t then IsUnmasked else IsMasked)
+  unfolding padded tableOf sharesFrom lookup shareOf
   one-channel t e = ap (λ (t : Bool). maskAnswer (lookup 1 (if t then entry 1 (v - 0) ∷ [] else []))) e ∙ go t
     where
       go : (t : Bool) → maskAnswer (lookup 1 (if t then entry 1 (v - 0) ∷ [] else [])) ≡ (if t then IsUnmasked else IsMasked)
@@ -76,8 +77,8 @@ module _ (p v : ℕ) where
 
   mask-by : 1 ≤ p → p ≤ 64 → v < 128 → (t : Bool) → leb v p ≡ t → maskBy p v ≡ mask (if t then IsUnmasked else IsMasked) ∷ []
   mask-by lo hi h t e =
-      ap (λ (d : Device). mask (deviceMask (after d (mip (0x00 ∷ v ∷ []))) 1) ∷ []) (granted p lo hi)
-      ∙ ap (λ (d : Device). mask (deviceMask (byteTaken d 0xF7 .device) 1) ∷ []) (value-stored h)
+      ap (λ (d : Device). mask (maskQuery (after d (mip (0x00 ∷ v ∷ []))) 1) ∷ []) (granted p lo hi)
+      ∙ ap (λ (d : Device). mask (maskQuery (byteTaken d 0xF7 .device) 1) ∷ []) (value-stored h)
       ∙ ap (λ (x : MaskAnswer). mask x ∷ []) (accepted-mip ∙ one-channel t e)
 
 fixed : P1 ++ P2 ++ (mask IsUnmasked ∷ []) ++ (mask IsMasked ∷ []) ++ P5 ++ P6 ++ P7 ++ P8 ++ P9 ≡ printed

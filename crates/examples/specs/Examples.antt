@@ -4,17 +4,17 @@ use Prim.Native.Nat.{ℕ, _+_}
 use mathlib.Core.List.{List, [], _∷_, _++_}
 use lib.ListN.{replicate}
 use Rattle.allocation.specs.declared.Was.the-variants.{Idle, Release, Stolen}
-use Rattle.shares.specs.declared.MaskAnswer.{MaskAnswer}
-use Rattle.shares.specs.declared.MaskAnswer.the-variants.{IsMasked, IsUnmasked}
-use Rattle.shares.specs.declared.ShareAnswer.{ShareAnswer}
-use Rattle.shares.specs.declared.ShareAnswer.the-variants.{ShareIs}
 use Rattle.playing.specs.declared.Answer.{Answer}
 use Rattle.playing.specs.declared.Answer.the-variants.{Nothing, Done, Note, NoNote, Number}
 use Rattle.device.specs.declared.Device.{Device}
 use Rattle.device.specs.Device.{started, byteTaken}
 use Rattle.queries.specs.declared.GeneratorAnswer.{GeneratorAnswer}
 use Rattle.queries.specs.declared.GeneratorAnswer.the-variants.{GeneratorIs}
-use Rattle.queries.specs.Queries.{generatorQuery, deviceMask, deviceShare}
+use Rattle.queries.specs.declared.MaskAnswer.{MaskAnswer}
+use Rattle.queries.specs.declared.MaskAnswer.the-variants.{IsMasked, IsUnmasked}
+use Rattle.queries.specs.declared.ShareAnswer.{ShareAnswer}
+use Rattle.queries.specs.declared.ShareAnswer.the-variants.{ShareIs}
+use Rattle.queries.specs.Queries.{generatorQuery, maskQuery, shareQuery}
 
 -- the device after bytes, and its answer to the last of them
 abbrev pub after : Device → List ℕ → Device
@@ -65,11 +65,11 @@ noteOn d l key g = generator (generatorQuery (after d (l ++ (key ∷ []))) g) �
 
 -- whether channel 1, alone in the table with this value, is masked among P generators
 abbrev pub maskBy : ℕ → ℕ → List Seen
-maskBy p value = mask (deviceMask (after (fresh p) (mip (0x00 ∷ value ∷ []))) 1) ∷ []
+maskBy p value = mask (maskQuery (after (fresh p) (mip (0x00 ∷ value ∷ []))) 1) ∷ []
 
 -- the share of channel c by this table among 10 generators
 abbrev pub shareBy : List ℕ → ℕ → List Seen
-shareBy l c = share (deviceShare (after (fresh 10) (mip l)) c) ∷ []
+shareBy l c = share (shareQuery (after (fresh 10) (mip l)) c) ∷ []
 
 -- what the definitions say; P3 and P4 speak of every P
 unfoldable pub P1 : List Seen

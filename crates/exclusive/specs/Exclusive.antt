@@ -6,11 +6,12 @@ use lib.ListN.{drop}
 use Rattle.table.specs.declared.Table.{Table}
 use Rattle.sysex.specs.declared.Kind.{Kind}
 use Rattle.sysex.specs.declared.Kind.the-variants.{Mip, SystemOn, Other}
-use Rattle.sysex.specs.declared.Verdict.{Verdict}
-use Rattle.sysex.specs.declared.Verdict.the-variants.{Accepted, Refused}
-use Rattle.sysex.specs.declared.Judged.{Judged}
-use Rattle.sysex.specs.SysEx.{kindOf, judged}
-use Rattle.sysex.specs.SysEx as judging
+use Rattle.sysex.specs.SysEx.{kindOf}
+use Rattle.mip.specs.declared.Verdict.{Verdict}
+use Rattle.mip.specs.declared.Verdict.the-variants.{Accepted, Refused}
+use Rattle.mip.specs.declared.Judged.{Judged}
+use Rattle.mip.specs.Mip.{judged}
+use Rattle.mip.specs.Mip as judging
 use Rattle.instrument.specs.declared.Instrument.{Instrument}
 use Rattle.instrument.specs.Instrument.{fresh, withTable, withGenerators}
 use Rattle.masking.specs.Masking.{masked}

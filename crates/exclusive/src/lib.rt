@@ -4,11 +4,11 @@ ghost use mathlib.Core.Path.{_≡_};
 ghost use Rattle.splitter.specs.Split.{body};
 ghost use Rattle.exclusive.specs.Exclusive.{newTable, mipTaken, exclusive};
 use instrument::Instrument;
+use mip::Verdict;
 use playing::Answer;
 use playing::Reply;
 use splitter::Parser;
 use sysex::Kind;
-use sysex::Verdict;
 use table::Table;
 
 // An accepted MIP message: its table replaces the old one, and newly masked channels give way.

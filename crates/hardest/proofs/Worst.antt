@@ -20,7 +20,7 @@ use Rattle.generators.specs.Generators.{at, isIdle}
 use Rattle.silence.specs.declared.Leaving.the-variants as leaving
 use Rattle.silence.specs.Silence.{silenced}
 use Rattle.instrument.specs.Instrument.{fresh, withGenerators}
-use Rattle.other_messages.specs.OtherMessages.{liftsPedal, silencesAll, endsAll}
+use Rattle.controllers.specs.Controllers.{liftsPedal, silencesAll, endsAll}
 use Rattle.playing.specs.Playing.{replied, played}
 use Rattle.reports.specs.Reports.{reported}
 use Rattle.device.specs.Device.{freshDevice, byteTaken}

@@ -3,13 +3,24 @@ use Prim.Native.Nat.{ℕ, _-_}
 use mathlib.Core.Bool.{Bool}
 use mathlib.Core.List.{List}
 use lib.Dec.{eqb, leb}
+use lib.ListN.{getD, set, replicate}
 use Rattle.table.specs.declared.Table.{Table}
 use Rattle.table.specs.Table.{startTable}
 use Rattle.channels.specs.declared.Channel.{Channel}
-use Rattle.channels.specs.Channel.{freshChannels, channelAt, replaced}
+use Rattle.channels.specs.Channel as of-channel
 use Rattle.generators.specs.declared.Generators.{Generators}
 use Rattle.generators.specs.Generators.{silent}
 use Rattle.instrument.specs.declared.Instrument.{Instrument}
+
+-- the sixteen channels; the wire carries the channel minus 1, which is its place here
+abbrev pub freshChannels : List Channel
+freshChannels = replicate 16 of-channel.fresh
+
+unfoldable pub channelAt : List Channel → ℕ → Channel
+channelAt l i = getD l i of-channel.fresh
+
+unfoldable pub replaced : List Channel → ℕ → Channel → List Channel
+replaced l i c = set l i c
 
 -- "Polyphony P .. and own device ID .., fixed at the start"; a fresh record
 unfoldable pub fresh : ℕ → ℕ → Instrument

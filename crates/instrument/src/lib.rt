@@ -1,8 +1,7 @@
 // The record of the sound module without its parser: what acts on a whole message works on it (document 01, "The device record"). By value, for every
 // value. Assumes nothing.
 ghost use mathlib.Core.Path.{_≡_};
-ghost use Rattle.instrument.specs.Instrument.{fresh, channelOf, withChannel, withGenerators, pedalDown, isRhythm};
-ghost use Rattle.channels.specs.Channel.{replaced};
+ghost use Rattle.instrument.specs.Instrument.{fresh, replaced, channelOf, withChannel, withGenerators, pedalDown, isRhythm};
 use channels::Channel;
 use generators::Generators;
 use table::Table;
@@ -47,49 +46,49 @@ impl Instrument {
         }
     }
 
-    // The record of channel c; a fresh one where there is no such channel.
-    pub fn channel_of(self, c: u8) -> Channel
-        ensures { λ r. ⌜ r ≡ channelOf self c ⌝ }
+    // The record of a channel; a fresh one where there is no such channel.
+    pub fn channel_of(self, channel: u8) -> Channel
+        ensures { λ r. ⌜ r ≡ channelOf self channel ⌝ }
     {
         let channels = self.channels;
-        let place = loops::less(c, 1) as usize;
+        let place = loops::less(channel, 1) as usize;
         if place < 16 {
             return channels[place];
         }
         Channel::fresh()
     }
 
-    // With the record of channel c replaced.
-    pub fn with_channel(self, c: u8, x: Channel) -> Self
-        ensures { λ r. ⌜ r ≡ withChannel self c x ⌝ }
+    // With the record of a channel replaced by x.
+    pub fn with_channel(self, channel: u8, x: Channel) -> Self
+        ensures { λ r. ⌜ r ≡ withChannel self channel x ⌝ }
     {
         let channels = self.channels;
-        let after = replace(channels, loops::less(c, 1), x);
+        let after = replace(channels, loops::less(channel, 1), x);
         let mut next = self;
         next.channels = after;
         next
     }
 
-    pub fn with_generators(self, s: Generators) -> Self
-        ensures { λ r. ⌜ r ≡ withGenerators self s ⌝ }
+    pub fn with_generators(self, generators: Generators) -> Self
+        ensures { λ r. ⌜ r ≡ withGenerators self generators ⌝ }
     {
         let mut next = self;
-        next.generators = s;
+        next.generators = generators;
         next
     }
 
-    // Whether the hold pedal of channel c is down.
-    pub fn pedal_down(self, c: u8) -> bool
-        ensures { λ r. ⌜ r ≡ pedalDown self c ⌝ }
+    // Whether the hold pedal of a channel is down.
+    pub fn pedal_down(self, channel: u8) -> bool
+        ensures { λ r. ⌜ r ≡ pedalDown self channel ⌝ }
     {
-        let x = self.channel_of(c);
+        let x = self.channel_of(channel);
         64 <= x.hold
     }
 
-    // Whether channel c is a rhythm channel: its drums end by their reports, and exclude each other.
-    pub fn is_rhythm(self, c: u8) -> bool
-        ensures { λ r. ⌜ r ≡ isRhythm self c ⌝ }
+    // Whether it is a rhythm channel: its drums end by their reports, and exclude each other.
+    pub fn is_rhythm(self, channel: u8) -> bool
+        ensures { λ r. ⌜ r ≡ isRhythm self channel ⌝ }
     {
-        c == 10
+        channel == 10
     }
 }

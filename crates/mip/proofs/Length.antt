@@ -8,7 +8,7 @@ use native.Mathlib.Omega.{arith}
 use borrow.Author.Tests.{leb-true, leb-false, lt-ltb, le-ltb, eq-eqb, ne-eqb}
 use lib.Dec.{leb, ltb, eqb}
 use lib.ListN.{length, take, drop, length-take, length-drop}
-use Rattle.sysex.specs.SysEx.{pairs, refused, judgedPairs, judged}
+use Rattle.mip.specs.Mip.{pairs, refused, judgedPairs, judged}
 
 module _ (n : ℕ) (l : List ℕ) (size : length l ≡ 37) where
   pub too-long : 36 < n → refused 5 ≡ judged (drop 4 (take n l))

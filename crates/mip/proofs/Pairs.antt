@@ -6,16 +6,17 @@ use mathlib.Core.List.{List, [], _∷_, _++_, append-assoc, append-nil}
 use Prim.Native.Nat.{ℕ, suc, _+_, _≤_, _<_}
 use native.Mathlib.Numerals.{add-one}
 use native.Mathlib.Omega.{arith}
-use borrow.Author.Tests.{lt-ltb, le-ltb}
+use borrow.Author.Tests.{lt-leb, lt-ltb, le-ltb}
 use lib.ListN.{length, take, drop, getD, length-append, length-take, length-drop}
 use lib.Seq.{drop-cons, getD-take}
+use Rattle.loops.proofs.Padded.{padded-push}
 use Rattle.table.specs.declared.Entry.{Entry}
 use Rattle.table.specs.declared.Table.{Table}
-use Rattle.table.specs.Table.{entry, entriesOf, tableOf, listed, pushed}
-use Rattle.table.proofs.Places.{entries-of-table, pushed-table}
-use Rattle.sysex.specs.declared.Judged.{Judged}
-use Rattle.sysex.specs.declared.Verdict.the-variants.{Accepted}
-use Rattle.sysex.specs.SysEx.{pairs, faulty, refused, judgedBy, judgedPairs}
+use Rattle.table.specs.Table.{entry, entriesOf, tableOf, listed}
+use Rattle.table.proofs.Places.{entries-of-table}
+use Rattle.mip.specs.declared.Judged.{Judged}
+use Rattle.mip.specs.declared.Verdict.the-variants.{Accepted}
+use Rattle.mip.specs.Mip.{pairs, faulty, refused, judgedBy, pushed}
 
 -- the pair at i, and those after it
 module _ (l : List ℕ) (n i : ℕ) where
@@ -36,6 +37,13 @@ module _ (l : List ℕ) (n i : ℕ) where
       few [] q = refl
       few (x ∷ []) q = refl
       few (x ∷ y ∷ m) q = absurd (omega arith)
+
+-- one entry more
+pushed-table : (l : List Entry) (e : Entry) → length l < 16 → pushed (tableOf l) e ≡ tableOf (l ++ (e ∷ []))
+unfolding pushed tableOf
+pushed-table l e h =
+    let n : length (l ++ (e ∷ [])) ≡ length l + 1 = length-append l (e ∷ []) in
+    rw (lt-leb 16 (length l) h, n, padded-push (entry 0 0) 16 l e h)
 
 -- the table after a turn
 pub one-entry-more : (t u : Table) (e : Entry) → t ≡ tableOf (entriesOf t) → t .count < 16 → u ≡ pushed t e

@@ -3,14 +3,25 @@
 ghost use mathlib.Core.Path.{_≡_};
 ghost use Prim.Native.Nat.{_≤_};
 ghost use lib.ListN.{drop};
-ghost use Rattle.table.specs.Table.{pushed};
 ghost use Rattle.splitter.specs.Split.{body};
-ghost use Rattle.sysex.specs.SysEx.{pairs, refused, judgedPairs, judged};
+ghost use Rattle.mip.specs.Mip.{pairs, refused, judgedPairs, judged, pushed};
 use splitter::Parser;
-use sysex::Judged;
-use sysex::Verdict;
 use table::Entry;
 use table::Table;
+
+// Whether a MIP message replaces the table.
+pub enum Verdict {
+    // It does.
+    Accepted,
+    // It does not, with its number, 5 to 9.
+    Refused(u8),
+}
+
+// The table is the message's if it is accepted, and empty if not.
+pub struct Judged {
+    pub verdict: Verdict,
+    pub table: Table,
+}
 
 // A table of no entry.
 const EMPTY: Table = Table {
@@ -46,13 +57,13 @@ fn refuse(number: u8) -> Judged
     }
 }
 
-// Numbers 7 to 9, pair by pair, with a mark for each channel that was listed: the pairs of parser p start after the four bytes of the head. A last byte without a partner is not looked at.
-fn judge_pairs(p: Parser) -> Judged
-    requires { ⌜ p .count ≤ 36 ⌝ }
-    ensures { λ r. ⌜ r ≡ judgedPairs (pairs (drop 4 (body p))) ⌝ }
+// Numbers 7 to 9, pair by pair, with a mark for each channel that was listed: the pairs start after the four bytes of the head. A last byte without a partner is not looked at.
+fn judge_pairs(parser: Parser) -> Judged
+    requires { ⌜ parser .count ≤ 36 ⌝ }
+    ensures { λ r. ⌜ r ≡ judgedPairs (pairs (drop 4 (body parser))) ⌝ }
 {
-    let bytes = p.bytes;
-    let n = p.count as usize;
+    let bytes = parser.bytes;
+    let n = parser.count as usize;
     let mut t = EMPTY;
     let mut before: u8 = 0;
     let mut listed = [0u8; 256];
@@ -87,16 +98,16 @@ fn judge_pairs(p: Parser) -> Judged
     }
 }
 
-// The MIP message of parser p, over the whole of it.
-pub fn judge(p: Parser) -> Judged
-    ensures { λ r. ⌜ r ≡ judged (drop 4 (body p)) ⌝ }
+// The MIP message of a parser, over the whole of it.
+pub fn judge(parser: Parser) -> Judged
+    ensures { λ r. ⌜ r ≡ judged (drop 4 (body parser)) ⌝ }
 {
-    let n = p.count;
+    let n = parser.count;
     if 36 < n {
         return refuse(5);
     }
     if (n <= 4) | (n % 2 == 1) {
         return refuse(6);
     }
-    judge_pairs(p)
+    judge_pairs(parser)
 }

@@ -5,7 +5,7 @@ ghost use Rattle.loops.specs.Cases.{orZero};
 ghost use Rattle.device.specs.Device.{started};
 ghost use Rattle.events.specs.Events.{taken};
 ghost use Rattle.events.specs.declared.Event.the-variants.{Byte, Report};
-ghost use Rattle.queries.specs.Queries.{generatorQuery, deviceMask, deviceShare};
+ghost use Rattle.queries.specs.Queries.{generatorQuery, maskQuery, shareQuery};
 ghost use Rattle.service.specs.Page.{pageNumber, pageAfter, pageAnswer};
 ghost use Rattle.pitch.specs.Pitch.{pitchOf};
 ghost use Rattle.song.specs.Song.{songAnswer, songWritten};
@@ -61,7 +61,7 @@ pub extern "C" fn muntinorris_generator(d: &Device, generator: u8) -> GeneratorN
 // Whether a channel is masked.
 #[no_mangle]
 pub extern "C" fn muntinorris_mask(d: &Device, channel: u8) -> MaskNumbers
-    ensures { λ r. ⌜ r ≡ maskNumbers (deviceMask (now (d .entry)) channel) ⌝ }
+    ensures { λ r. ⌜ r ≡ maskNumbers (maskQuery (now (d .entry)) channel) ⌝ }
 {
     numbers::mask_numbers(*d, channel)
 }
@@ -69,7 +69,7 @@ pub extern "C" fn muntinorris_mask(d: &Device, channel: u8) -> MaskNumbers
 // The share of a channel, 0 if it is masked.
 #[no_mangle]
 pub extern "C" fn muntinorris_share(d: &Device, channel: u8) -> ShareNumbers
-    ensures { λ r. ⌜ r ≡ shareNumbers (deviceShare (now (d .entry)) channel) ⌝ }
+    ensures { λ r. ⌜ r ≡ shareNumbers (shareQuery (now (d .entry)) channel) ⌝ }
 {
     numbers::share_numbers(*d, channel)
 }

@@ -24,7 +24,8 @@ use Rattle.masking.specs.Masking.{masked}
 use Rattle.playing.specs.declared.Answer.{Answer}
 use Rattle.playing.specs.declared.Answer.the-variants.{Done, Number}
 use Rattle.playing.specs.Playing.{replied, played}
-use Rattle.other_messages.specs.OtherMessages.{liftsPedal, silencesAll, endsAll, notesAfter, playNoteOff, playControl}
+use Rattle.controllers.specs.Controllers.{liftsPedal, silencesAll, endsAll}
+use Rattle.other_messages.specs.OtherMessages.{notesAfter, playNoteOff, playControl}
 use Rattle.reports.specs.Reports.{reported}
 use Rattle.exclusive.specs.Exclusive.{newTable}
 use Rattle.note_book.specs.Demand3.{Book, Heard, System, after}

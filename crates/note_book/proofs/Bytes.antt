@@ -24,10 +24,11 @@ use Rattle.table.specs.Laws.{WellFormed}
 use Rattle.table.specs.Table.{entriesOf}
 use Rattle.sysex.specs.declared.Kind.{Kind}
 use Rattle.sysex.specs.declared.Kind.the-variants as kind
-use Rattle.sysex.specs.declared.Verdict.{Verdict}
-use Rattle.sysex.specs.declared.Verdict.the-variants.{Accepted, Refused}
-use Rattle.sysex.specs.SysEx.{kindOf, pairs, judged}
-use Rattle.sysex.proofs.Accepted.{accepted}
+use Rattle.sysex.specs.SysEx.{kindOf}
+use Rattle.mip.specs.declared.Verdict.{Verdict}
+use Rattle.mip.specs.declared.Verdict.the-variants.{Accepted, Refused}
+use Rattle.mip.specs.Mip.{pairs, judged}
+use Rattle.mip.proofs.Accepted.{accepted}
 use Rattle.age_law.proofs.Assigned.{Follows}
 use Rattle.instrument.specs.declared.Instrument.{Instrument}
 use Rattle.instrument.specs.Instrument.{fresh}

@@ -27,7 +27,7 @@ use Rattle.instrument.specs.Instrument.{fresh}
 use Rattle.playing.specs.declared.Answer.{Answer}
 use Rattle.playing.specs.declared.Answer.the-variants.{Nothing, Done, Note, NoNote, Number}
 use Rattle.playing.specs.Playing.{played}
-use Rattle.other_messages.specs.OtherMessages.{liftsPedal, silencesAll, endsAll}
+use Rattle.controllers.specs.Controllers.{liftsPedal, silencesAll, endsAll}
 use Rattle.reports.specs.Reports.{reported}
 use Rattle.exclusive.specs.Exclusive as of-exclusive
 use Rattle.note_book.specs.Demand3.{Slot, empty, note, Book, withParser, shareOf, isRhythm, isNote, isOf, isEnded, freed, allFreed, put, withHolds, remaining, keepNoteOn, keepNoteOff, notesAfter, keepControl, keepMessage, keepTable, keepReport, Heard, nothing, message, newTable, reset, report, keep}

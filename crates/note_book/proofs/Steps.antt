@@ -10,7 +10,6 @@ use lib.Dec.{eqb, leb, ltb}
 use lib.ListN.{length, getD, set, replicate, length-set, getD-replicate, List·getD-eq-default}
 use lib.Seq.{getD-set-same, getD-set-other}
 use Rattle.loops.specs.Cases.{if_then_else_, bit}
-use Rattle.loops.proofs.Tests.{and-left}
 use Rattle.message.specs.declared.Message.{Message}
 use Rattle.message.specs.declared.Message.the-variants.{NoteOn, NoteOff, Control, Program, Bend, Other}
 use Rattle.table.specs.declared.Entry.{Entry}
@@ -23,8 +22,9 @@ use Rattle.shares.specs.Shares.{sharesFrom, lookup, isMasked, isChannel}
 use Rattle.shares.specs.Shares as of-table
 use Rattle.shares.proofs.Shares.{masked-unlisted, shares-channels}
 use Rattle.channels.specs.declared.Channel.{Channel}
-use Rattle.channels.specs.Channel.{dataEntry, reset, stored, controlled, withProgram, withBend, freshChannels, channelAt, replaced}
+use Rattle.channels.specs.Channel.{withProgram, withBend}
 use Rattle.channels.specs.Channel as of-channel
+use Rattle.controllers.specs.Controllers.{reset, stored, controlled, liftsPedal, silencesAll, endsAll}
 use Rattle.generators.specs.declared.Generators.{Generators}
 use Rattle.generators.specs.Generators.{Generator, generator, at, isIdle, isBusy, silent}
 use Rattle.releases.specs.declared.Change.{Change}
@@ -33,14 +33,14 @@ use Rattle.releases.specs.Releases.{changed}
 use Rattle.silence.specs.declared.Leaving.the-variants as leaving
 use Rattle.silence.specs.Silence.{silenced}
 use Rattle.instrument.specs.declared.Instrument.{Instrument}
-use Rattle.instrument.specs.Instrument.{fresh, channelOf, withChannel, withGenerators}
+use Rattle.instrument.specs.Instrument.{fresh, channelAt, replaced, channelOf, withChannel, withGenerators}
 use Rattle.instrument.specs.Instrument as of-instrument
 use Rattle.masking.specs.Masking.{isNewlyMasked, masked}
 use Rattle.playing.specs.declared.Answer.{Answer}
 use Rattle.playing.specs.declared.Answer.the-variants.{Done, Number}
 use Rattle.playing.specs.declared.Reply.{Reply}
 use Rattle.playing.specs.Playing.{replied, played}
-use Rattle.other_messages.specs.OtherMessages.{liftsPedal, silencesAll, endsAll, playNoteOff, playControl}
+use Rattle.other_messages.specs.OtherMessages.{playNoteOff, playControl}
 use Rattle.other_messages.specs.OtherMessages as of-others
 use Rattle.reports.specs.Reports.{reported}
 use Rattle.exclusive.specs.Exclusive.{newTable}
@@ -105,28 +105,15 @@ matches-channel i b m c lo hi x h e others =
         let n = eqb-false d c q in
         ap (λ (y : Channel). y .hold) (getD-set-other (i .channels) (c - 1) (d - 1) x of-channel.fresh (λ (z : d - 1 ≡ c - 1). n (omega arith))) ∙ m .holds d l ∙ sym (others d n)
 
-hold-if : (b : Bool) (x y : Channel) (h : ℕ) → x .hold ≡ h → y .hold ≡ h → (if b then x else y) .hold ≡ h
-hold-if true x y h p q = p
-hold-if false x y h p q = q
-
 -- a controller's hold: 64 and 121 alone touch it
 controlled-hold : (x : Channel) (n v : ℕ) → controlled x n v .hold ≡ holdAfter n v (x .hold)
-unfolding controlled dataEntry reset stored
+unfolding controlled reset stored
 controlled-hold x n v = go (eqb n 64) refl (eqb n 121 && eqb v 0) refl
   where
     go : (a : Bool) → eqb n 64 ≡ a → (b : Bool) → eqb n 121 && eqb v 0 ≡ b → controlled x n v .hold ≡ (if a then v else if b then 0 else x .hold)
     go true p b q = rw (eqb-true n 64 p)
-    go false p true q = let e = eqb-true n 121 (and-left (eqb n 121) (eqb v 0) q) in rw q (rw e)
-    go false p false q =
-        rw (p, q)
-        (hold-if (eqb n 6) _ _ (x .hold) (hold-if (eqb (x .«rpn_msb») 0 && eqb (x .«rpn_lsb») 0) _ _ (x .hold) refl refl)
-        (hold-if (eqb n 98 || eqb n 99) _ _ (x .hold) refl
-        (hold-if (eqb n 1) _ _ (x .hold) refl
-        (hold-if (eqb n 7) _ _ (x .hold) refl
-        (hold-if (eqb n 10) _ _ (x .hold) refl
-        (hold-if (eqb n 11) _ _ (x .hold) refl
-        (hold-if (eqb n 100) _ _ (x .hold) refl
-        (hold-if (eqb n 101) _ _ (x .hold) refl refl))))))))
+    go false p true q = rw q
+    go false p false q = rw (q, p)
 
 step-control : (i : Instrument) (b : Book) → Matches i b → (c n v : ℕ) → 1 ≤ c → c ≤ 16 → Matches (playControl i c n v) (keepControl b c n v)
 unfolding playControl of-others.notesAfter of-instrument.isRhythm withChannel

@@ -22,14 +22,15 @@ use Rattle.shares.specs.declared.Share.the-variants.{Masked, Units}
 use Rattle.shares.specs.Shares.{sharesFrom, lookup, isMasked}
 use Rattle.sysex.specs.declared.Kind.{Kind}
 use Rattle.sysex.specs.declared.Kind.the-variants as kind
-use Rattle.sysex.specs.SysEx.{kindOf, pairs}
+use Rattle.sysex.specs.SysEx.{kindOf}
+use Rattle.mip.specs.Mip.{pairs}
 use Rattle.drums.specs.Drums.{excludes}
 use Rattle.generators.specs.Generators.{Generator, at, isIdle, isHeld, isSustained}
 use Rattle.allocation.specs.Allocation.{isStolen}
 use Rattle.instrument.specs.declared.Instrument.{Instrument}
 use Rattle.playing.specs.declared.Answer.{Answer}
 use Rattle.playing.specs.declared.Answer.the-variants.{Nothing, Done, Note, NoNote, Number}
-use Rattle.other_messages.specs.OtherMessages.{liftsPedal, silencesAll, endsAll}
+use Rattle.controllers.specs.Controllers.{liftsPedal, silencesAll, endsAll}
 use Rattle.device.specs.declared.Device.{Device}
 use Rattle.device.specs.Device.{started}
 use Rattle.events.specs.declared.Event.{Event}

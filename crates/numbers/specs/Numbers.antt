@@ -10,12 +10,11 @@ use Rattle.playing.specs.declared.Answer.the-variants.{Nothing, Done, Note, NoN
 use Rattle.playing.specs.Playing.{numberOf}
 use Rattle.queries.specs.declared.GeneratorAnswer.{GeneratorAnswer}
 use Rattle.queries.specs.declared.GeneratorAnswer.the-variants.{GeneratorIs, NoGenerator}
-use Rattle.queries.specs.Queries.{generatorNumber}
-use Rattle.shares.specs.declared.MaskAnswer.{MaskAnswer}
-use Rattle.shares.specs.declared.MaskAnswer.the-variants.{IsMasked, IsUnmasked, NoSuchChannel}
-use Rattle.shares.specs.declared.ShareAnswer.{ShareAnswer}
-use Rattle.shares.specs.declared.ShareAnswer.the-variants.{ShareIs, NotAChannel}
-use Rattle.shares.specs.Shares.{maskNumber, shareNumber}
+use Rattle.queries.specs.declared.MaskAnswer.{MaskAnswer}
+use Rattle.queries.specs.declared.MaskAnswer.the-variants.{IsMasked, IsUnmasked, NoSuchChannel}
+use Rattle.queries.specs.declared.ShareAnswer.{ShareAnswer}
+use Rattle.queries.specs.declared.ShareAnswer.the-variants.{ShareIs, NotAChannel}
+use Rattle.queries.specs.Queries.{generatorNumber, maskNumber, shareNumber}
 use Rattle.pitch.specs.declared.PitchAnswer.{PitchAnswer}
 use Rattle.pitch.specs.Pitch.{pitchIn, pitchNumber}
 use Rattle.channels.specs.declared.Channel.{Channel}

@@ -1,7 +1,7 @@
 // The answers in plain numbers, as C and Rust have them (include/muntinorris.h), by value, for every answer and every record. Assumes nothing.
 ghost use mathlib.Core.Path.{_≡_};
 ghost use Rattle.loops.specs.Cases.{orZero};
-ghost use Rattle.queries.specs.Queries.{generatorQuery, deviceMask, deviceShare};
+ghost use Rattle.queries.specs.Queries.{generatorQuery, maskQuery, shareQuery};
 ghost use Rattle.service.specs.Page.{pageNumber, pageAfter, pageAnswer};
 ghost use Rattle.pitch.specs.Pitch.{pitchOf};
 ghost use Rattle.numbers.specs.Numbers.{wasNumber, numbersOf, generatorNumbers, maskNumbers, shareNumbers, pitchNumbers, GainsTold, GainsToldOf, refusedSong, songNumbers};
@@ -12,9 +12,9 @@ use gains::GainsAnswer;
 use pitch::PitchAnswer;
 use playing::Answer;
 use queries::GeneratorAnswer;
+use queries::MaskAnswer;
+use queries::ShareAnswer;
 use service::PageAnswer;
-use shares::MaskAnswer;
-use shares::ShareAnswer;
 use song::SongAnswer;
 
 // An answer: what (0 none, 1 done, 2 a note, 3 a number), the number, channel and key, the generator and what it was (0 idle, 1 release, 2 stolen). A field without meaning is 0.
@@ -151,7 +151,7 @@ pub fn generator_numbers(d: Device, g: u8) -> GeneratorNumbers
 }
 
 pub fn mask_numbers(d: Device, channel: u8) -> MaskNumbers
-    ensures { λ r. ⌜ r ≡ maskNumbers (deviceMask d channel) ⌝ }
+    ensures { λ r. ⌜ r ≡ maskNumbers (maskQuery d channel) ⌝ }
 {
     match queries::mask_query(d, channel) {
         MaskAnswer::IsMasked => MaskNumbers {
@@ -170,7 +170,7 @@ pub fn mask_numbers(d: Device, channel: u8) -> MaskNumbers
 }
 
 pub fn share_numbers(d: Device, channel: u8) -> ShareNumbers
-    ensures { λ r. ⌜ r ≡ shareNumbers (deviceShare d channel) ⌝ }
+    ensures { λ r. ⌜ r ≡ shareNumbers (shareQuery d channel) ⌝ }
 {
     match queries::share_query(d, channel) {
         ShareAnswer::ShareIs(share) => ShareNumbers {

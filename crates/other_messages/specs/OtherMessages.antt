@@ -1,9 +1,8 @@
 -- Document 01, "Other messages": what a note-off and a controller do to the sound module.
 use Prim.Native.Nat.{ℕ}
-use mathlib.Core.Bool.{Bool, _&&_, _||_, not}
-use lib.Dec.{eqb, ltb}
+use mathlib.Core.Bool.{Bool, _&&_, not}
 use Rattle.loops.specs.Cases.{if_then_else_}
-use Rattle.channels.specs.Channel.{controlled}
+use Rattle.controllers.specs.Controllers.{controlled, liftsPedal, silencesAll, endsAll}
 use Rattle.generators.specs.declared.Generators.{Generators}
 use Rattle.releases.specs.declared.Change.the-variants.{NoteOff, AllNotesOff, PedalUp}
 use Rattle.releases.specs.Releases.{changed}
@@ -16,16 +15,7 @@ use Rattle.instrument.specs.Instrument.{channelOf, withChannel, withGenerators,
 unfoldable pub playNoteOff : Instrument → ℕ → ℕ → Instrument
 playNoteOff i c k = if isRhythm i c then i else withGenerators i (changed (NoteOff (pedalDown i c) c k) (i .generators))
 
--- the controllers that end notes: "Hold below 64" and "121, value 0" lift the pedal; "120, value 0" silences; "123, value 0" is a note-off for each key
-abbrev pub liftsPedal : ℕ → ℕ → Bool
-liftsPedal n v = eqb n 64 && ltb v 64 || eqb n 121 && eqb v 0
-
-abbrev pub silencesAll : ℕ → ℕ → Bool
-silencesAll n v = eqb n 120 && eqb v 0
-
-abbrev pub endsAll : ℕ → ℕ → Bool
-endsAll n v = eqb n 123 && eqb v 0
-
+-- what becomes of the notes by a controller that lifts the pedal, silences or ends them
 unfoldable pub notesAfter : Bool → ℕ → ℕ → ℕ → Generators → Generators
 notesAfter pedal c n v s =
     if liftsPedal n v then changed (PedalUp c) s else

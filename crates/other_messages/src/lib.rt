@@ -2,22 +2,22 @@
 // mask is looked at here. Assumes nothing.
 ghost use mathlib.Core.Path.{_≡_};
 ghost use Rattle.other_messages.specs.OtherMessages.{notesAfter, playNoteOff, playControl};
-use releases::Change;
 use generators::Generators;
 use instrument::Instrument;
+use releases::Change;
 use silence::Leaving;
 
-// What a controller does to notes: the pedal, 120, 121 and 123.
+// What a controller does to notes; which ones do anything is in crate controllers.
 fn notes_after(s: Generators, pedal: bool, channel: u8, n: u8, v: u8) -> Generators
     ensures { λ r. ⌜ r ≡ notesAfter pedal channel n v s ⌝ }
 {
-    if ((n == 64) & (v < 64)) | ((n == 121) & (v == 0)) {
+    if controllers::lifts_pedal(n, v) {
         return releases::apply(s, Change::PedalUp(channel));
     }
-    if (n == 120) & (v == 0) {
+    if controllers::silences_all(n, v) {
         return silence::fall_silent(s, Leaving::Channel(channel));
     }
-    if (n == 123) & (v == 0) {
+    if controllers::ends_all(n, v) {
         return releases::apply(s, Change::AllNotesOff(pedal, channel));
     }
     s

@@ -4,13 +4,17 @@ use Prim.Native.Nat.{ℕ}
 use mathlib.Core.Option.{Option, some, none}
 use lib.Dec.{leb}
 use Rattle.loops.specs.Cases.{if_then_else_}
-use Rattle.shares.specs.declared.MaskAnswer.{MaskAnswer}
-use Rattle.shares.specs.declared.ShareAnswer.{ShareAnswer}
-use Rattle.shares.specs.Shares.{maskQuery, shareQuery}
+use Rattle.shares.specs.declared.Share.{Share}
+use Rattle.shares.specs.declared.Share.the-variants.{Masked, Units}
+use Rattle.shares.specs.Shares.{shareOf, isChannel}
 use Rattle.generators.specs.Generators.{at}
 use Rattle.device.specs.declared.Device.{Device}
 use Rattle.queries.specs.declared.GeneratorAnswer.{GeneratorAnswer}
 use Rattle.queries.specs.declared.GeneratorAnswer.the-variants.{GeneratorIs, NoGenerator}
+use Rattle.queries.specs.declared.MaskAnswer.{MaskAnswer}
+use Rattle.queries.specs.declared.MaskAnswer.the-variants.{IsMasked, IsUnmasked, NoSuchChannel}
+use Rattle.queries.specs.declared.ShareAnswer.{ShareAnswer}
+use Rattle.queries.specs.declared.ShareAnswer.the-variants.{ShareIs, NotAChannel}
 
 -- number 12: "generator P or above"
 unfoldable pub generatorQuery : Device → ℕ → GeneratorAnswer
@@ -23,9 +27,28 @@ abbrev pub generatorNumber : GeneratorAnswer → Option ℕ
 generatorNumber (GeneratorIs s c k) = none
 generatorNumber NoGenerator = some 12
 
--- number 14 is theirs
-abbrev pub deviceMask : Device → ℕ → MaskAnswer
-deviceMask d c = maskQuery (d .instrument .table) (d .instrument .polyphony) c
+-- number 14: "mask or share query, channel not 1 to 16"
+abbrev pub maskAnswer : Share → MaskAnswer
+maskAnswer Masked = IsMasked
+maskAnswer (Units n) = IsUnmasked
 
-abbrev pub deviceShare : Device → ℕ → ShareAnswer
-deviceShare d c = shareQuery (d .instrument .table) (d .instrument .polyphony) c
+unfoldable pub maskQuery : Device → ℕ → MaskAnswer
+maskQuery d c =
+    if isChannel c then maskAnswer (shareOf (d .instrument .table) (d .instrument .polyphony) c) else NoSuchChannel
+
+abbrev pub maskNumber : MaskAnswer → Option ℕ
+maskNumber IsMasked = none
+maskNumber IsUnmasked = none
+maskNumber NoSuchChannel = some 14
+
+abbrev pub shareAnswer : Share → ShareAnswer
+shareAnswer Masked = ShareIs 0
+shareAnswer (Units n) = ShareIs n
+
+unfoldable pub shareQuery : Device → ℕ → ShareAnswer
+shareQuery d c =
+    if isChannel c then shareAnswer (shareOf (d .instrument .table) (d .instrument .polyphony) c) else NotAChannel
+
+abbrev pub shareNumber : ShareAnswer → Option ℕ
+shareNumber (ShareIs n) = none
+shareNumber NotAChannel = some 14

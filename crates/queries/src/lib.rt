@@ -1,10 +1,8 @@
 // The queries of the device (document 01, "Other messages"): they change nothing. By value, for every value of the record. Assumes nothing.
 ghost use mathlib.Core.Path.{_≡_};
-ghost use Rattle.queries.specs.Queries.{generatorQuery, deviceMask, deviceShare};
+ghost use Rattle.queries.specs.Queries.{generatorQuery, maskQuery, shareQuery};
 use device::Device;
-use shares::MaskAnswer;
 use shares::Share;
-use shares::ShareAnswer;
 
 // The answer to a query of a generator.
 pub enum GeneratorAnswer {
@@ -12,6 +10,24 @@ pub enum GeneratorAnswer {
     GeneratorIs(u8, u8, u8),
     // Number 12: there is no generator of that number.
     NoGenerator,
+}
+
+// The answer to a query of a mask.
+pub enum MaskAnswer {
+    // The channel is masked.
+    IsMasked,
+    // The channel is unmasked.
+    IsUnmasked,
+    // Number 14: the channel is not 1 to 16.
+    NoSuchChannel,
+}
+
+// The answer to a query of a share.
+pub enum ShareAnswer {
+    // The channel's share, 0 if it is masked.
+    ShareIs(u8),
+    // Number 14: the channel is not 1 to 16.
+    NotAChannel,
 }
 
 // The state, channel and key of generator g.
@@ -33,14 +49,14 @@ pub fn generator_query(d: Device, g: u8) -> GeneratorAnswer
     )
 }
 
-// Whether channel c is masked.
-pub fn mask_query(d: Device, c: u8) -> MaskAnswer
-    ensures { λ r. ⌜ r ≡ deviceMask d c ⌝ }
+// Whether a channel is masked.
+pub fn mask_query(d: Device, channel: u8) -> MaskAnswer
+    ensures { λ r. ⌜ r ≡ maskQuery d channel ⌝ }
 {
-    if shares::is_channel(c) {
+    if shares::is_channel(channel) {
         let i = d.instrument;
         let t = i.table;
-        if shares::masks(t, i.polyphony, c) {
+        if shares::masks(t, i.polyphony, channel) {
             return MaskAnswer::IsMasked;
         }
         return MaskAnswer::IsUnmasked;
@@ -48,14 +64,14 @@ pub fn mask_query(d: Device, c: u8) -> MaskAnswer
     MaskAnswer::NoSuchChannel
 }
 
-// The share of channel c, 0 if it is masked.
-pub fn share_query(d: Device, c: u8) -> ShareAnswer
-    ensures { λ r. ⌜ r ≡ deviceShare d c ⌝ }
+// The share of a channel, 0 if it is masked.
+pub fn share_query(d: Device, channel: u8) -> ShareAnswer
+    ensures { λ r. ⌜ r ≡ shareQuery d channel ⌝ }
 {
-    if shares::is_channel(c) {
+    if shares::is_channel(channel) {
         let i = d.instrument;
         let t = i.table;
-        return match shares::share_of(t, i.polyphony, c) {
+        return match shares::share_of(t, i.polyphony, channel) {
             Share::Masked => ShareAnswer::ShareIs(0),
             Share::Units(n) => ShareAnswer::ShareIs(n),
         };

@@ -20,15 +20,17 @@ use Rattle.message.specs.declared.Message.the-variants.{NoteOn, NoteOff, Contro
 use Rattle.message.specs.Message.{decode}
 use Rattle.sysex.specs.declared.Kind.{Kind}
 use Rattle.sysex.specs.declared.Kind.the-variants as kind
-use Rattle.sysex.specs.declared.Verdict.{Verdict}
-use Rattle.sysex.specs.declared.Verdict.the-variants.{Accepted, Refused}
-use Rattle.sysex.specs.SysEx.{kindOf, judged}
+use Rattle.sysex.specs.SysEx.{kindOf}
+use Rattle.mip.specs.declared.Verdict.{Verdict}
+use Rattle.mip.specs.declared.Verdict.the-variants.{Accepted, Refused}
+use Rattle.mip.specs.Mip.{judged}
 use Rattle.channels.specs.declared.Channel.{Channel}
-use Rattle.channels.specs.Channel.{fresh, withModulation, withVolume, withPan, withExpression, withHold, withRpn, dataEntry, reset, controlled, channelAt, replaced}
-use Rattle.channels.specs.Channel as of-channel
+use Rattle.channels.specs.Channel.{fresh}
+use Rattle.controllers.specs.Controllers.{dataEntry, reset, controlled}
+use Rattle.controllers.specs.Controllers as of-controllers
 use Rattle.generators.specs.Generators.{at, isIdle}
 use Rattle.instrument.specs.declared.Instrument.{Instrument}
-use Rattle.instrument.specs.Instrument.{channelOf, withChannel, isRhythm}
+use Rattle.instrument.specs.Instrument.{channelAt, replaced, channelOf, withChannel, isRhythm}
 use Rattle.instrument.specs.Instrument as of-instrument
 use Rattle.other_messages.specs.OtherMessages.{playNoteOff, playControl}
 use Rattle.playing.specs.declared.Reply.{Reply}
@@ -61,33 +63,36 @@ at-most-24 v = go (ltb v 24) refl
     go true e = omega (arith, ltb-true v 24 e)
     go false e = omega arith
 
-module _ (c : Channel) (r : InRange c) where
-  data-entry-in-range : (v : ℕ) → InRange (dataEntry c v)
-  unfolding dataEntry
-  data-entry-in-range v = by-both InRange (eqb (c .«rpn_msb») 0 && eqb (c .«rpn_lsb») 0) _ _ (let h = at-most-24 v in omega arith) r
+-- a number is at most m, whichever of two it is
+up-to : (m : ℕ) (b : Bool) (x y : ℕ) → x ≤ m → y ≤ m → (if b then x else y) ≤ m
+up-to m = by-both (λ (x : ℕ). x ≤ m)
 
+module _ (c : Channel) (r : InRange c) where
   reset-in-range : InRange (reset c)
   unfolding reset
   reset-in-range = omega arith
 
   module _ (n v : ℕ) (h : v ≤ 127) where
-    stored-in-range : InRange (of-channel.stored c n v)
-    unfolding of-channel.stored
+    stored-in-range : InRange (of-controllers.stored c n v)
+    unfolding of-controllers.stored dataEntry
     stored-in-range =
-        by-both InRange (eqb n 1) (withModulation c v) _ (omega arith)
-        (by-both InRange (eqb n 7) (withVolume c v) _ (omega arith)
-        (by-both InRange (eqb n 10) (withPan c v) _ (omega arith)
-        (by-both InRange (eqb n 11) (withExpression c v) _ (omega arith)
-        (by-both InRange (eqb n 64) (withHold c v) _ (omega arith)
-        (by-both InRange (eqb n 100) (withRpn c (c .«rpn_msb») v) _ (omega arith)
-        (by-both InRange (eqb n 101) (withRpn c v (c .«rpn_lsb»)) _ (omega arith) r))))))
+        record {
+          program = r .program;
+          modulation = up-to 127 (eqb n 1) _ _ h (r .modulation);
+          volume = up-to 127 (eqb n 7) _ _ h (r .volume);
+          pan = up-to 127 (eqb n 10) _ _ h (r .pan);
+          expression = up-to 127 (eqb n 11) _ _ h (r .expression);
+          hold = up-to 127 (eqb n 64) _ _ h (r .hold);
+          «rpn_msb» = up-to 127 (eqb n 98 || eqb n 99) _ _ (omega arith) (up-to 127 (eqb n 101) _ _ h (r .«rpn_msb»));
+          «rpn_lsb» = up-to 127 (eqb n 98 || eqb n 99) _ _ (omega arith) (up-to 127 (eqb n 100) _ _ h (r .«rpn_lsb»));
+          «bend_msb» = r .«bend_msb»;
+          «bend_lsb» = r .«bend_lsb»;
+          sensitivity = up-to 24 (eqb n 6) _ _ (up-to 24 (eqb (c .«rpn_msb») 0 && eqb (c .«rpn_lsb») 0) _ _ (at-most-24 v) (r .sensitivity)) (r .sensitivity);
+        }
 
     controlled-in-range : InRange (controlled c n v)
     unfolding controlled
-    controlled-in-range =
-        by-both InRange (eqb n 6) (dataEntry c v) _ (data-entry-in-range v)
-        (by-both InRange (eqb n 98 || eqb n 99) (withRpn c 127 127) _ (omega arith)
-        (by-both InRange (eqb n 121 && eqb v 0) (reset c) _ reset-in-range stored-in-range))
+    controlled-in-range = by-both InRange (eqb n 121 && eqb v 0) (reset c) _ reset-in-range stored-in-range
 
 -- ---- the sixteen channels; a fresh one stands for a place that there is not
 

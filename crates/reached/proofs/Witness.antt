@@ -12,8 +12,9 @@ use Rattle.splitter.specs.Split.{begun, stored, oneDataByte, completed, dataByt
 use Rattle.message.specs.Message.{decode}
 use Rattle.channels.specs.declared.Channel.{Channel}
 use Rattle.channels.specs.Channel as of-channel
+use Rattle.controllers.specs.Controllers as of-controllers
 use Rattle.generators.specs.Generators.{silent}
-use Rattle.instrument.specs.Instrument.{fresh, channelOf, withChannel}
+use Rattle.instrument.specs.Instrument.{fresh, channelAt, replaced, channelOf, withChannel}
 use Rattle.instrument.proofs.Elements.{any-default}
 use Rattle.other_messages.specs.OtherMessages.{notesAfter, playControl}
 use Rattle.playing.specs.Playing.{played}
@@ -87,5 +88,5 @@ pub bounds-reached : channelOf (after (started 65 0 .device) loudest .instrument
       «bend_lsb» = 127;
       sensitivity = 24;
     }
-unfolding begun stored oneDataByte completed dataByte opened ended statusByte split decode of-channel.fresh of-channel.dataEntry of-channel.stored of-channel.controlled of-channel.channelAt of-channel.replaced silent fresh channelOf withChannel notesAfter playControl played reported started heard byteTaken reportTaken taken after
+unfolding begun stored oneDataByte completed dataByte opened ended statusByte split decode of-channel.fresh of-controllers.dataEntry of-controllers.stored of-controllers.controlled silent fresh channelAt replaced channelOf withChannel notesAfter playControl played reported started heard byteTaken reportTaken taken after
 bounds-reached = refl

@@ -3,7 +3,6 @@
 use Prim.Native.Nat.{ℕ, _+_, _-_}
 use mathlib.Core.Bool.{Bool, true, false, _&&_}
 use mathlib.Core.List.{List, [], _∷_}
-use mathlib.Core.Option.{Option, some, none}
 use lib.Dec.{eqb, leb}
 use Rattle.loops.specs.Cases.{if_then_else_}
 use Rattle.table.specs.declared.Entry.{Entry}
@@ -11,10 +10,6 @@ use Rattle.table.specs.declared.Table.{Table}
 use Rattle.table.specs.Table.{entry, entriesOf}
 use Rattle.shares.specs.declared.Share.{Share}
 use Rattle.shares.specs.declared.Share.the-variants.{Masked, Units}
-use Rattle.shares.specs.declared.MaskAnswer.{MaskAnswer}
-use Rattle.shares.specs.declared.MaskAnswer.the-variants.{IsMasked, IsUnmasked, NoSuchChannel}
-use Rattle.shares.specs.declared.ShareAnswer.{ShareAnswer}
-use Rattle.shares.specs.declared.ShareAnswer.the-variants.{ShareIs, NotAChannel}
 
 -- "A listed channel is unmasked if its value is at most P"; "The share of an unmasked channel is its value minus the value before it (0 before the
 -- first)": the unmasked channels by falling priority, each with its share in place of its value; v is the value before the first entry
@@ -46,31 +41,6 @@ abbrev pub isMasked : Share → Bool
 isMasked Masked = true
 isMasked (Units n) = false
 
--- number 14: "mask or share query, channel not 1 to 16"
+-- whether a number is a channel's
 abbrev pub isChannel : ℕ → Bool
 isChannel c = leb 1 c && leb c 16
-
--- "Queries .. give .. whether a channel is masked; its share, 0 if masked. A refused query gives its number only."
-abbrev pub maskAnswer : Share → MaskAnswer
-maskAnswer Masked = IsMasked
-maskAnswer (Units n) = IsUnmasked
-
-unfoldable pub maskQuery : Table → ℕ → ℕ → MaskAnswer
-maskQuery t p c = if isChannel c then maskAnswer (shareOf t p c) else NoSuchChannel
-
-abbrev pub shareAnswer : Share → ShareAnswer
-shareAnswer Masked = ShareIs 0
-shareAnswer (Units n) = ShareIs n
-
-unfoldable pub shareQuery : Table → ℕ → ℕ → ShareAnswer
-shareQuery t p c = if isChannel c then shareAnswer (shareOf t p c) else NotAChannel
-
--- the numbers of document 01 for the two queries' answers
-abbrev pub maskNumber : MaskAnswer → Option ℕ
-maskNumber IsMasked = none
-maskNumber IsUnmasked = none
-maskNumber NoSuchChannel = some 14
-
-abbrev pub shareNumber : ShareAnswer → Option ℕ
-shareNumber (ShareIs n) = none
-shareNumber NotAChannel = some 14

@@ -14,35 +14,17 @@ pub enum Share {
     Units(u8),
 }
 
-// The answer to a query of a mask.
-pub enum MaskAnswer {
-    // The channel is masked.
-    IsMasked,
-    // The channel is unmasked.
-    IsUnmasked,
-    // Number 14: the channel is not 1 to 16.
-    NoSuchChannel,
-}
-
-// The answer to a query of a share.
-pub enum ShareAnswer {
-    // The channel's share, 0 if it is masked.
-    ShareIs(u8),
-    // Number 14: the channel is not 1 to 16.
-    NotAChannel,
-}
-
-// The share of channel c among P generators.
-pub fn share_of(t: Table, p: u8, c: u8) -> Share
-    ensures { λ r. ⌜ r ≡ shareOf t p c ⌝ }
+// The share of a channel among P generators.
+pub fn share_of(table: Table, polyphony: u8, channel: u8) -> Share
+    ensures { λ r. ⌜ r ≡ shareOf table polyphony channel ⌝ }
 {
-    let entries = t.entries;
-    let n = at_most(16, t.count) as usize;
+    let entries = table.entries;
+    let n = at_most(16, table.count) as usize;
     let mut before: u8 = 0;
     let mut i: usize = 0;
     while i < n {
         let e = entries[i];
-        if (e.value <= p) & (c == e.channel) {
+        if (e.value <= polyphony) & (channel == e.channel) {
             return Share::Units(less(e.value, before));
         }
         before = e.value;
@@ -51,18 +33,18 @@ pub fn share_of(t: Table, p: u8, c: u8) -> Share
     Share::Masked
 }
 
-pub fn masks(t: Table, p: u8, c: u8) -> bool
-    ensures { λ r. ⌜ r ≡ isMasked (shareOf t p c) ⌝ }
+pub fn masks(table: Table, polyphony: u8, channel: u8) -> bool
+    ensures { λ r. ⌜ r ≡ isMasked (shareOf table polyphony channel) ⌝ }
 {
-    match share_of(t, p, c) {
+    match share_of(table, polyphony, channel) {
         Share::Masked => true,
         Share::Units(_) => false,
     }
 }
 
 // Whether a number is a channel's.
-pub fn is_channel(c: u8) -> bool
-    ensures { λ r. ⌜ r ≡ isChannel c ⌝ }
+pub fn is_channel(channel: u8) -> bool
+    ensures { λ r. ⌜ r ≡ isChannel channel ⌝ }
 {
-    (1 <= c) & (c <= 16)
+    (1 <= channel) & (channel <= 16)
 }

@@ -12,11 +12,11 @@ use Rattle.loops.proofs.Totals.{total-same}
 use Rattle.table.specs.Table.{entriesOf}
 use Rattle.shares.specs.declared.Share.{Share}
 use Rattle.shares.specs.declared.Share.the-variants.{Masked, Units}
-use Rattle.shares.specs.Shares.{isChannel, maskAnswer, shareAnswer, maskQuery, shareQuery, shareOf}
+use Rattle.shares.specs.Shares.{isChannel, shareOf}
 use Rattle.generators.specs.Generators.{Generator, at, isIdle, isBusy, isBusyOn}
 use Rattle.candidates.specs.Candidates.{busyCount}
 use Rattle.device.specs.declared.Device.{Device}
-use Rattle.queries.specs.Queries.{generatorQuery}
+use Rattle.queries.specs.Queries.{generatorQuery, maskAnswer, shareAnswer, maskQuery, shareQuery}
 use Rattle.service.specs.Page.{shareField, mark, row, pageText}
 use Rattle.note_book.specs.Demand3.{after, Live, begin}
 use Rattle.note_book.proofs.Playable.{idle-busy}

@@ -13,12 +13,12 @@ use Rattle.message.specs.Message.{decode}
 use Rattle.table.specs.declared.Entry.{Entry}
 use Rattle.table.specs.declared.Table.{Table}
 use Rattle.table.specs.Table.{entry, entriesOf, tableOf, startTable, listed}
-use Rattle.shares.specs.declared.MaskAnswer.the-variants.{IsMasked, IsUnmasked}
-use Rattle.shares.specs.declared.ShareAnswer.the-variants.{ShareIs}
 use Rattle.shares.specs.Shares.{sharesFrom, lookup, shareOf}
-use Rattle.sysex.specs.SysEx.{isMip, isSystemOn, kindOf, pairs, faulty, judged}
+use Rattle.sysex.specs.SysEx.{isMip, isSystemOn, kindOf}
+use Rattle.mip.specs.Mip.{pairs, faulty, judged}
 use Rattle.drums.specs.Drums.{groupOf, excludes}
 use Rattle.channels.specs.Channel as of-channel
+use Rattle.controllers.specs.Controllers as of-controllers
 use Rattle.ages.specs.Ages.{agesOf, newest}
 use Rattle.generators.specs.Generators.{assigned, silent}
 use Rattle.releases.specs.Releases.{changes, stateAfter, changed}
@@ -26,7 +26,7 @@ use Rattle.silence.specs.Silence.{isAmong, leaves, silenced}
 use Rattle.candidates.specs.Candidates.{lowestIdle, wanted, oldest, busyCount}
 use Rattle.stealing.specs.Stealing.{overShare, stealFrom}
 use Rattle.allocation.specs.Allocation.{cleared, step5, choice, noteOn}
-use Rattle.instrument.specs.Instrument.{fresh, channelOf, withChannel, isRhythm}
+use Rattle.instrument.specs.Instrument.{fresh, channelAt, replaced, channelOf, withChannel, isRhythm}
 use Rattle.masking.specs.Masking.{masked}
 use Rattle.other_messages.specs.OtherMessages.{notesAfter, playControl, playNoteOff}
 use Rattle.playing.specs.Playing.{playNoteOn, played}
@@ -37,7 +37,9 @@ use Rattle.device.specs.Device.{started, heard, byteTaken}
 use Rattle.events.specs.declared.Event.{Event}
 use Rattle.events.specs.declared.Event.the-variants.{Byte}
 use Rattle.events.specs.Events.{reportTaken, taken}
-use Rattle.queries.specs.Queries.{generatorQuery, deviceMask, deviceShare}
+use Rattle.queries.specs.declared.MaskAnswer.the-variants.{IsMasked, IsUnmasked}
+use Rattle.queries.specs.declared.ShareAnswer.the-variants.{ShareIs}
+use Rattle.queries.specs.Queries.{generatorQuery, maskQuery, shareQuery}
 use Rattle.log.specs.Log.{decimal}
 use Rattle.service.specs.Page.{inTwo, inThree, standingFrom, placeField, valueField, head, line, row, rowsTo, pageOf, pageText}
 use Rattle.note_book.specs.Demand3.{notesOn, after, Live, begin}
@@ -64,10 +66,10 @@ module _ (d : Device) (c : ℕ) (a : Agrees d c) where
   pub value-shown : field 6 3 c d ≡ valueField (standingFrom 1 c (entriesOf (d .instrument .table)))
   value-shown = a .value
 
-  pub mask-shown : deviceMask d c ≡ IsMasked → (field 14 1 c d ≡ 77 ∷ []) × (field 10 3 c d ≡ 45 ∷ 45 ∷ 45 ∷ [])
+  pub mask-shown : maskQuery d c ≡ IsMasked → (field 14 1 c d ≡ 77 ∷ []) × (field 10 3 c d ≡ 45 ∷ 45 ∷ 45 ∷ [])
   mask-shown m = (a .mark ∙ rw m refl, a .share ∙ rw m refl)
 
-  pub share-shown : (n : ℕ) → deviceMask d c ≡ IsUnmasked → deviceShare d c ≡ ShareIs n → (field 14 1 c d ≡ 45 ∷ []) × (field 10 3 c d ≡ inThree n)
+  pub share-shown : (n : ℕ) → maskQuery d c ≡ IsUnmasked → shareQuery d c ≡ ShareIs n → (field 14 1 c d ≡ 45 ∷ []) × (field 10 3 c d ≡ inThree n)
   share-shown n m s = (a .mark ∙ rw m refl, a .share ∙ rw (m, s) refl)
 
   pub notes-shown : field 16 2 c d ≡ inTwo (total (λ g. bit (isBusyTold (generatorQuery d g) && isOnTold c (generatorQuery d g))) 256)
@@ -184,5 +186,5 @@ pub worked-page : pageText (after Live (begin 24 0) song .device) ≡
     ∷ 49 ∷ 53 ∷ 32 ∷ 45 ∷ 45 ∷ 32 ∷ 45 ∷ 45 ∷ 45 ∷ 32 ∷ 45 ∷ 45 ∷ 45 ∷ 32 ∷ 77 ∷ 32 ∷ 32 ∷ 48 ∷ 10
     -- 16  4 100 --- M  0
     ∷ 49 ∷ 54 ∷ 32 ∷ 32 ∷ 52 ∷ 32 ∷ 49 ∷ 48 ∷ 48 ∷ 32 ∷ 45 ∷ 45 ∷ 45 ∷ 32 ∷ 77 ∷ 32 ∷ 32 ∷ 48 ∷ 10 ∷ []
-unfolding upTo total filterBy firstOf padded begun stored oneDataByte completed dataByte opened ended statusByte split decode tableOf startTable listed sharesFrom lookup shareOf isMip isSystemOn kindOf pairs faulty judged groupOf excludes of-channel.fresh of-channel.dataEntry of-channel.stored of-channel.controlled of-channel.channelAt of-channel.replaced agesOf newest assigned silent changes stateAfter changed isAmong leaves silenced lowestIdle wanted oldest busyCount overShare stealFrom cleared step5 choice noteOn fresh channelOf withChannel isRhythm masked notesAfter playControl playNoteOff playNoteOn played started newTable mipTaken exclusive heard byteTaken taken reportTaken reported after inTwo inThree standingFrom head line row rowsTo pageOf pageText
+unfolding upTo total filterBy firstOf padded begun stored oneDataByte completed dataByte opened ended statusByte split decode tableOf startTable listed sharesFrom lookup shareOf isMip isSystemOn kindOf pairs faulty judged groupOf excludes of-channel.fresh of-controllers.dataEntry of-controllers.stored of-controllers.controlled agesOf newest assigned silent changes stateAfter changed isAmong leaves silenced lowestIdle wanted oldest busyCount overShare stealFrom cleared step5 choice noteOn fresh channelAt replaced channelOf withChannel isRhythm masked notesAfter playControl playNoteOff playNoteOn played started newTable mipTaken exclusive heard byteTaken taken reportTaken reported after inTwo inThree standingFrom head line row rowsTo pageOf pageText
 worked-page = refl

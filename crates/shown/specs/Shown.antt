@@ -12,15 +12,15 @@ use Rattle.loops.specs.Passes.{total}
 use Rattle.table.specs.declared.Entry.{Entry}
 use Rattle.table.specs.declared.Table.{Table}
 use Rattle.table.specs.Table.{entriesOf}
-use Rattle.shares.specs.declared.MaskAnswer.{MaskAnswer}
-use Rattle.shares.specs.declared.MaskAnswer.the-variants.{IsMasked, IsUnmasked, NoSuchChannel}
-use Rattle.shares.specs.declared.ShareAnswer.{ShareAnswer}
-use Rattle.shares.specs.declared.ShareAnswer.the-variants.{ShareIs, NotAChannel}
 use Rattle.device.specs.declared.Device.{Device}
 use Rattle.events.specs.declared.Event.{Event}
 use Rattle.queries.specs.declared.GeneratorAnswer.{GeneratorAnswer}
 use Rattle.queries.specs.declared.GeneratorAnswer.the-variants.{GeneratorIs, NoGenerator}
-use Rattle.queries.specs.Queries.{generatorQuery, deviceMask, deviceShare}
+use Rattle.queries.specs.declared.MaskAnswer.{MaskAnswer}
+use Rattle.queries.specs.declared.MaskAnswer.the-variants.{IsMasked, IsUnmasked, NoSuchChannel}
+use Rattle.queries.specs.declared.ShareAnswer.{ShareAnswer}
+use Rattle.queries.specs.declared.ShareAnswer.the-variants.{ShareIs, NotAChannel}
+use Rattle.queries.specs.Queries.{generatorQuery, maskQuery, shareQuery}
 use Rattle.log.specs.Log.{decimal}
 use Rattle.service.specs.Page.{inTwo, inThree, standingFrom, placeField, valueField, pageOf, pageText}
 use Rattle.note_book.specs.Demand3.{Book, notesOn, after, Live, begin}
@@ -77,8 +77,8 @@ pub record Agrees (d : Device) (c : ℕ) : Type 0 where
   pub channel : field 0 2 c d ≡ inTwo c
   pub place : field 3 2 c d ≡ placeField (standingFrom 1 c (entriesOf (d .instrument .table)))
   pub value : field 6 3 c d ≡ valueField (standingFrom 1 c (entriesOf (d .instrument .table)))
-  pub share : field 10 3 c d ≡ shareTold (deviceMask d c) (deviceShare d c)
-  pub mark : field 14 1 c d ≡ markTold (deviceMask d c)
+  pub share : field 10 3 c d ≡ shareTold (maskQuery d c) (shareQuery d c)
+  pub mark : field 14 1 c d ≡ markTold (maskQuery d c)
   pub notes : field 16 2 c d ≡ inTwo (busyTold d c)
 
 abbrev pub AgreesWithQueries : Type 0

@@ -1,3 +1,2 @@
--- The law of an accepted MIP message (Accepted), and the one that the proofs of the code cite, of the head.
+-- The law that the proof of the code cites, of the head.
 pub mod Head
-pub mod Accepted

@@ -1,3 +1,2 @@
--- SysEx: which ones are for us, and how a MIP message is judged.
+-- SysEx: which ones are for us.
 pub mod SysEx
-pub mod Laws

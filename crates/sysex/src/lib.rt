@@ -1,10 +1,9 @@
-// SysEx: what an ended one is to us, and what a MIP message can come to (document 01, "MIP table, masks, shares"; numbers 5 to 9), which crate mip judges.
-// By the parser that the F7 found, which holds the SysEx's data bytes, for every value of it. Assumes nothing.
+// SysEx: what an ended one is to us (document 01, "MIP table, masks, shares"), by the parser that the F7 found, which holds the SysEx's data bytes, for every
+// value of it. A MIP message is judged in crate mip. Assumes nothing.
 ghost use mathlib.Core.Path.{_≡_};
 ghost use Rattle.splitter.specs.Split.{body};
 ghost use Rattle.sysex.specs.SysEx.{startsWith, kindOf};
 use splitter::Parser;
-use table::Table;
 
 // What an ended SysEx is.
 pub enum Kind {
@@ -16,26 +15,12 @@ pub enum Kind {
     Other,
 }
 
-// Whether a MIP message replaces the table.
-pub enum Verdict {
-    // It does.
-    Accepted,
-    // It does not, with its number, 5 to 9.
-    Refused(u8),
-}
-
-// The table is the message's if it is accepted, and empty if not.
-pub struct Judged {
-    pub verdict: Verdict,
-    pub table: Table,
-}
-
-// What the SysEx of parser p is to the device with this own ID.
-pub fn kind_of(p: Parser, id: u8) -> Kind
-    ensures { λ r. ⌜ r ≡ kindOf id (body p) ⌝ }
+// What the SysEx of a parser is to the device with this own ID.
+pub fn kind_of(parser: Parser, id: u8) -> Kind
+    ensures { λ r. ⌜ r ≡ kindOf id (body parser) ⌝ }
 {
-    let n = p.count;
-    let l = p.bytes;
+    let n = parser.count;
+    let l = parser.bytes;
     if (4 <= n) & starts_with(id, 0x7F, 0x0B, 0x01, l) {
         return Kind::Mip;
     }

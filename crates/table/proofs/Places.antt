@@ -1,17 +1,16 @@
--- Entries and the table of them: what stands in the sixteen places, and one entry more.
+-- Entries and the table of them: what stands in the sixteen places.
 -- Assumes nothing.
 use mathlib.Core.Path.{_≡_}
-use mathlib.Core.List.{List, [], _∷_, _++_}
+use mathlib.Core.List.{List}
 use Prim.Native.Nat.{ℕ, _+_, _≤_, _<_}
 use native.Mathlib.Numerals.{add-one}
 use native.Mathlib.Omega.{arith}
-use borrow.Author.Tests.{lt-leb}
-use lib.ListN.{length, take, set, getD, length-append, length-take}
+use lib.ListN.{length, take, set, getD, length-take}
 use lib.Seq.{take-suc}
 use Rattle.loops.specs.Passes.{padded}
 use Rattle.loops.proofs.Padded.{padded-take, padded-push}
 use Rattle.table.specs.declared.Entry.{Entry}
-use Rattle.table.specs.Table.{entry, entriesOf, tableOf, pushed}
+use Rattle.table.specs.Table.{entry, entriesOf, tableOf}
 
 -- the entries of the table of a list are that list
 pub entries-of-table : (l : List Entry) → length l ≤ 16 → entriesOf (tableOf l) ≡ l
@@ -24,10 +23,3 @@ pub places-turn : (w : List Entry) (d : Entry) (i : ℕ) (out : List Entry) (v :
 places-turn w d i out v k h p q =
     let n : length (take i w) ≡ i = rw length-take (omega arith) in
     rw (p, q, add-one, take-suc w i d k) (rw n at (padded-push (entry 0 0) 16 (take i w) (getD w i d) (omega arith)))
-
--- one entry more
-pub pushed-table : (l : List Entry) (e : Entry) → length l < 16 → pushed (tableOf l) e ≡ tableOf (l ++ (e ∷ []))
-unfolding pushed tableOf
-pushed-table l e h =
-    let n : length (l ++ (e ∷ [])) ≡ length l + 1 = length-append l (e ∷ []) in
-    rw (lt-leb 16 (length l) h, n, padded-push (entry 0 0) 16 l e h)

@@ -1,11 +1,10 @@
 -- Document 01, "MIP table, masks, shares": the table lists channels by falling priority, each with the polyphony needed by it and all before it.
 -- Assumes nothing.
-use Prim.Native.Nat.{ℕ, _+_}
+use Prim.Native.Nat.{ℕ}
 use mathlib.Core.Bool.{Bool, false, _||_}
 use mathlib.Core.List.{List, [], _∷_, map}
-use lib.ListN.{length, take, set}
-use lib.Dec.{eqb, leb}
-use Rattle.loops.specs.Cases.{if_then_else_}
+use lib.ListN.{length, take}
+use lib.Dec.{eqb}
 use Rattle.loops.specs.Passes.{padded}
 use Rattle.table.specs.declared.Entry.{Entry}
 use Rattle.table.specs.declared.Table.{Table}
@@ -31,7 +30,3 @@ startTable p = tableOf (map (λ (c : ℕ). entry c p) startOrder)
 unfoldable pub listed : ℕ → List Entry → Bool
 listed c [] = false
 listed c (e ∷ l) = eqb c (e .channel) || listed c l
-
--- a table with one entry more, of the lowest priority; a full one stays as it is
-unfoldable pub pushed : Table → Entry → Table
-pushed t e = if leb 16 (t .count) then t else record { count = t .count + 1; entries = set (t .entries) (t .count) e }

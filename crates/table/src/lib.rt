@@ -29,15 +29,15 @@ const START_ORDER: [u8; 16] = [10, 1, 2, 3, 4, 5, 6, 7, 8, 9, 11, 12, 13, 14, 15
 
 impl Table {
     // The starting table: all sixteen values are P.
-    pub fn start(p: u8) -> Self
-        ensures { λ r. ⌜ r ≡ startTable p ⌝ }
+    pub fn start(polyphony: u8) -> Self
+        ensures { λ r. ⌜ r ≡ startTable polyphony ⌝ }
     {
         let mut entries = [BLANK; 16];
         let mut i: usize = 0;
         while i < 16 {
             entries[i] = Entry {
                 channel: START_ORDER[i],
-                value: p,
+                value: polyphony,
             };
             i += 1;
         }

@@ -40,9 +40,9 @@ use lines::Offset;
 use lines::put_field;
 use pitch::PitchAnswer;
 use queries::GeneratorAnswer;
+use queries::MaskAnswer;
+use queries::ShareAnswer;
 use service::PageAnswer;
-use shares::MaskAnswer;
-use shares::ShareAnswer;
 use song::SongAnswer;
 use text::put;
 

@@ -1,7 +1,7 @@
 -- `controllers::data_entry` meets its contract: the test for RPN 0/0 is the definition's, and `at_most` is its limit of 24.
 -- Assumes nothing.
 use borrow.Author.Needs.{needs}
-use Rattle.channels.specs.Channel.{dataEntry}
+use Rattle.controllers.specs.Controllers.{dataEntry}
 use Rattle.controllers.proofs.data_entry.Statement.{statement}
 use Rattle.controllers.proofs.data_entry.Tie as tie
 

@@ -1,7 +1,7 @@
 -- `controllers::reset` meets its contract: what it writes is what the definition writes.
 -- Assumes nothing.
 use mathlib.Core.Path.{refl}
-use Rattle.channels.specs.Channel.{reset}
+use Rattle.controllers.specs.Controllers.{reset}
 use Rattle.controllers.proofs.reset.Statement.{statement}
 use Rattle.controllers.proofs.reset.Tie as tie
 

@@ -5,7 +5,7 @@ use Prim.Native.Nat.{_≤_}
 use native.Mathlib.Omega.{arith}
 use lib.ListN.{length}
 use lib.Seq.{set-out}
-use Rattle.channels.specs.Channel.{replaced}
+use Rattle.instrument.specs.Instrument.{replaced}
 use borrow.Author.Needs.{needs}
 use Rattle.instrument.proofs.replace.Statement.{statement}
 use Rattle.instrument.proofs.replace.Tie as tie

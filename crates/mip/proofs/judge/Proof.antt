@@ -13,7 +13,7 @@ refuse-requires c κs = search needs
 returns : tie.Need-returns
 returns c =
     let s = c .before .before in
-    c .refuse .ensures ∙ too-long (s .args .p .count) (s .args .p .bytes) (bytes-37 (s .args .p) (s .good .0)) (c .before .if1 .taken)
+    c .refuse .ensures ∙ too-long (s .args .parser .count) (s .args .parser .bytes) (bytes-37 (s .args .parser) (s .good .0)) (c .before .if1 .taken)
 
 refuse-requires-2 : tie.Need-refuse-requires-2
 refuse-requires-2 c κs = search needs
@@ -22,7 +22,7 @@ returns-2 : tie.Need-returns-2
 returns-2 c =
     let s = c .before .before .before in
     c .refuse2 .ensures
-    ∙ none-or-odd (s .args .p .count) (s .args .p .bytes) (bytes-37 (s .args .p) (s .good .0)) (c .before .before .if1 .left) (c .before .if2 .taken)
+    ∙ none-or-odd (s .args .parser .count) (s .args .parser .bytes) (bytes-37 (s .args .parser) (s .good .0)) (c .before .before .if1 .left) (c .before .if2 .taken)
 
 judge-pairs-requires : tie.Need-judge-pairs-requires
 judge-pairs-requires c κs = search needs
@@ -31,7 +31,7 @@ returns-3 : tie.Need-returns-3
 returns-3 c =
     let s = c .before .before .before in
     c .judge-pairs .ensures
-    ∙ all-pairs (s .args .p .count) (s .args .p .bytes) (bytes-37 (s .args .p) (s .good .0)) (c .before .before .if1 .left) (c .before .if2 .left)
+    ∙ all-pairs (s .args .parser .count) (s .args .parser .bytes) (bytes-37 (s .args .parser) (s .good .0)) (c .before .before .if1 .left) (c .before .if2 .left)
 
 pub judge-spec : {M : Type 1} → statement M
 judge-spec =

@@ -12,7 +12,7 @@ use mathlib.Core.Bool.{true, false}
 use Rattle.loops.specs.Passes.{padded}
 use Rattle.splitter.proofs.Sizes.{bytes-37}
 use Rattle.table.specs.Table.{entriesOf, tableOf}
-use Rattle.sysex.specs.SysEx.{pairs, faulty, judgedBy, judgedPairs}
+use Rattle.mip.specs.Mip.{pairs, faulty, judgedBy, judgedPairs}
 use Rattle.mip.proofs.Listed.{Marks, no-marks, mark-more, by-mark}
 use Rattle.mip.proofs.Pairs.{one-entry-more, not-a-channel, listed-twice, value-falls, good-pair, no-pair}
 use Rattle.mip.proofs.judge_pairs.Statement.{statement}
@@ -33,7 +33,7 @@ loop-holds : tie.Need-loop-holds Inv-loop μ-loop
 unfolding tableOf padded
 loop-holds c =
     let s = c .before .before in
-    (s .pre, omega arith, bytes-37 (s .args .p) (s .good .0), omega arith, refl, refl, refl, no-marks)
+    (s .pre, omega arith, bytes-37 (s .args .parser) (s .good .0), omega arith, refl, refl, refl, no-marks)
 
 add-loop : tie.Need-add-loop Inv-loop μ-loop
 add-loop c = omega arith
@@ -54,7 +54,7 @@ returns : tie.Need-returns Inv-loop μ-loop
 returns c =
     let b = c .before .before .before in
     let l = b .loop in
-    let p = b .before .before .before .args .p in
+    let p = b .before .before .before .args .parser in
     c .refuse .ensures
     ∙ not-a-channel (p .bytes) (p .count) (l .i) (l .before) (entriesOf (l .t)) _ (omega arith) (omega arith) (l .inv .5) (c .before .if1 .taken)
 
@@ -74,7 +74,7 @@ returns-2 : tie.Need-returns-2 Inv-loop μ-loop
 returns-2 c =
     let b = c .before .before .before .before .before in
     let l = b .loop in
-    let p = b .before .before .before .args .p in
+    let p = b .before .before .before .args .parser in
     c .refuse2 .ensures
     ∙ listed-twice (p .bytes) (p .count) (l .i) (l .before) (entriesOf (l .t)) _ (omega arith) (omega arith) (l .inv .5)
     (c .before .before .before .if1 .left) (by-mark (entriesOf (l .t)) (l .listed) (c .before .before .place .result) _ false (l .inv .7) (c .before .before .place .ensures .1) (c .before .before .place .ensures .0) (ne-eqb _ _ (c .before .if2 .taken)))
@@ -86,7 +86,7 @@ returns-3 : tie.Need-returns-3 Inv-loop μ-loop
 returns-3 c =
     let b = c .before .before .before .before .before .before in
     let l = b .loop in
-    let p = b .before .before .before .args .p in
+    let p = b .before .before .before .args .parser in
     c .refuse3 .ensures
     ∙ value-falls (p .bytes) (p .count) (l .i) (l .before) (entriesOf (l .t)) _ (omega arith) (omega arith) (l .inv .5)
     (c .before .before .before .before .if1 .left) (by-mark (entriesOf (l .t)) (l .listed) (c .before .before .before .place .result) _ true (l .inv .7) (c .before .before .before .place .ensures .1) (c .before .before .before .place .ensures .0) (eq-eqb _ _ (c .before .before .if2 .left))) (c .before .if3 .taken)
@@ -107,7 +107,7 @@ loop-again : tie.Need-loop-again Inv-loop μ-loop
 loop-again c =
     let b = c .before .before .before .before .before .before in
     let l = b .loop in
-    let p = b .before .before .before .args .p in
+    let p = b .before .before .before .args .parser in
     let u = one-entry-more (l .t) (c .push .result) _ (l .inv .4) (omega arith) (c .push .ensures) in
     let w = good-pair (p .bytes) (p .count) (l .i) (l .before) (entriesOf (l .t)) _ (omega arith) (omega arith) (l .inv .5)
     (c .before .before .before .before .if1 .left) (by-mark (entriesOf (l .t)) (l .listed) (c .before .before .before .place .result) _ true (l .inv .7) (c .before .before .before .place .ensures .1) (c .before .before .before .place .ensures .0) (eq-eqb _ _ (c .before .before .if2 .left))) (c .before .if3 .left) _ (u .1) in
@@ -118,7 +118,7 @@ loop-again c =
 returns-4 : tie.Need-returns-4 Inv-loop μ-loop
 returns-4 c =
     let l = c .before .loop in
-    let p = c .before .before .before .before .args .p in
+    let p = c .before .before .before .before .args .parser in
     no-pair (p .bytes) (p .count) (l .i) (l .before) (l .t) _ (omega arith) (l .inv .4) (l .inv .5)
 
 pub judge-pairs-spec : {M : Type 1} → statement M

@@ -2,7 +2,7 @@
 -- Assumes nothing.
 use borrow.Author.Needs.{needs}
 use borrow.Author.Tests.{le-leb, lt-leb}
-use Rattle.table.specs.Table.{pushed}
+use Rattle.mip.specs.Mip.{pushed}
 use Rattle.mip.proofs.push.Statement.{statement}
 use Rattle.mip.proofs.push.Tie as tie
 

@@ -1,6 +1,6 @@
 -- `muntinorris::muntinorris_mask` meets its contract: `Copied`'s law at `mask_numbers`, whose contract is all that is known of it.
 -- Assumes nothing.
-use Rattle.queries.specs.Queries.{deviceMask}
+use Rattle.queries.specs.Queries.{maskQuery}
 use Rattle.numbers.specs.Numbers.{maskNumbers}
 use Rattle.muntinorris.proofs.Copied.{Query, copied}
 use Rattle.numbers.proofs.MaskNumbers as O
@@ -12,7 +12,7 @@ use Rattle.muntinorris.proofs.muntinorris_mask.Statement as stated
 use Rattle.muntinorris.proofs.muntinorris_mask.Code as code
 
 abbrev query : Query
-query = record { name = query-def.name; out = O.the-type; laws = O′.the-laws; plain = O′.the-plain; answer = λ d n. maskNumbers (deviceMask d n) }
+query = record { name = query-def.name; out = O.the-type; laws = O′.the-laws; plain = O′.the-plain; answer = λ d n. maskNumbers (maskQuery d n) }
 
 pub muntinorris-mask-spec : {M : Type 1} → stated.statement M
 unfolding code.routine

@@ -1,6 +1,6 @@
 -- `muntinorris::muntinorris_share` meets its contract: `Copied`'s law at `share_numbers`, whose contract is all that is known of it.
 -- Assumes nothing.
-use Rattle.queries.specs.Queries.{deviceShare}
+use Rattle.queries.specs.Queries.{shareQuery}
 use Rattle.numbers.specs.Numbers.{shareNumbers}
 use Rattle.muntinorris.proofs.Copied.{Query, copied}
 use Rattle.numbers.proofs.ShareNumbers as O
@@ -12,7 +12,7 @@ use Rattle.muntinorris.proofs.muntinorris_share.Statement as stated
 use Rattle.muntinorris.proofs.muntinorris_share.Code as code
 
 abbrev query : Query
-query = record { name = query-def.name; out = O.the-type; laws = O′.the-laws; plain = O′.the-plain; answer = λ d n. shareNumbers (deviceShare d n) }
+query = record { name = query-def.name; out = O.the-type; laws = O′.the-laws; plain = O′.the-plain; answer = λ d n. shareNumbers (shareQuery d n) }
 
 pub muntinorris-share-spec : {M : Type 1} → stated.statement M
 unfolding code.routine

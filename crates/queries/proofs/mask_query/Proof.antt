@@ -5,8 +5,9 @@ use borrow.Author.Needs.{needs}
 use Rattle.loops.specs.Cases.{if_then_else_}
 use Rattle.shares.specs.declared.Share.{Share}
 use Rattle.shares.specs.declared.Share.the-variants.{Masked, Units}
-use Rattle.shares.specs.declared.MaskAnswer.the-variants.{IsMasked, IsUnmasked}
-use Rattle.shares.specs.Shares.{shareOf, isMasked, maskAnswer, maskQuery}
+use Rattle.shares.specs.Shares.{isMasked}
+use Rattle.queries.specs.declared.MaskAnswer.the-variants.{IsMasked, IsUnmasked}
+use Rattle.queries.specs.Queries.{maskAnswer, maskQuery}
 use Rattle.queries.proofs.mask_query.Statement.{statement}
 use Rattle.queries.proofs.mask_query.Tie as tie
 

@@ -2,7 +2,7 @@
 -- Assumes nothing.
 use mathlib.Core.Path.{sym, _∙_}
 use borrow.Author.Needs.{needs}
-use Rattle.shares.specs.Shares.{shareQuery}
+use Rattle.queries.specs.Queries.{shareQuery}
 use Rattle.queries.proofs.share_query.Statement.{statement}
 use Rattle.queries.proofs.share_query.Tie as tie
 

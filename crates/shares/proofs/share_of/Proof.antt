@@ -29,7 +29,7 @@ cast-n : tie.Need-cast-n Inv-loop μ-loop
 cast-n c = omega arith
 
 loop-holds : tie.Need-loop-holds Inv-loop μ-loop
-loop-holds c = let s = c .before .before in (omega arith, omega arith, entries-16 (s .args .t) (s .good .0), refl)
+loop-holds c = let s = c .before .before in (omega arith, omega arith, entries-16 (s .args .table) (s .good .0), refl)
 
 mul-e : tie.Need-mul-e Inv-loop μ-loop
 mul-e c = omega arith
@@ -47,8 +47,8 @@ returns c =
     let n = b .before .at-most in
     let a = b .before .before .before .args in
     ap Units (c .less .ensures)
-    ∙ share-here (a .t .entries) (n .result) (b .loop .i) (a .p) (a .c) (b .loop .before) _ (omega arith) (omega arith) (b .loop .inv .3) (c .before .if1 .taken)
-    ∙ ap (λ (l : List Entry). lookup (a .c) (sharesFrom (a .p) 0 l)) (all-entries (a .t) (n .result) (b .loop .inv .2) (n .ensures .0))
+    ∙ share-here (a .table .entries) (n .result) (b .loop .i) (a .polyphony) (a .channel) (b .loop .before) _ (omega arith) (omega arith) (b .loop .inv .3) (c .before .if1 .taken)
+    ∙ ap (λ (l : List Entry). lookup (a .channel) (sharesFrom (a .polyphony) 0 l)) (all-entries (a .table) (n .result) (b .loop .inv .2) (n .ensures .0))
 
 add-i : tie.Need-add-i Inv-loop μ-loop
 add-i c = omega arith
@@ -61,7 +61,7 @@ loop-again c =
     let b = c .before .before .before .before .before in
     let n = b .before .at-most in
     let a = b .before .before .before .args in
-    (omega arith, omega arith, b .loop .inv .2, share-next (a .t .entries) (n .result) (b .loop .i) (a .p) (a .c) (b .loop .before) _ (omega arith) (omega arith) (b .loop .inv .3) (c .if1 .left))
+    (omega arith, omega arith, b .loop .inv .2, share-next (a .table .entries) (n .result) (b .loop .i) (a .polyphony) (a .channel) (b .loop .before) _ (omega arith) (omega arith) (b .loop .inv .3) (c .if1 .left))
 
 returns-2 : tie.Need-returns-2 Inv-loop μ-loop
 unfolding shareOf
@@ -69,8 +69,8 @@ returns-2 c =
     let b = c .before in
     let n = b .before .at-most in
     let a = b .before .before .before .args in
-    share-end (a .t .entries) (n .result) (b .loop .i) (a .p) (a .c) (b .loop .before) _ (omega arith) (b .loop .inv .3)
-    ∙ ap (λ (l : List Entry). lookup (a .c) (sharesFrom (a .p) 0 l)) (all-entries (a .t) (n .result) (b .loop .inv .2) (n .ensures .0))
+    share-end (a .table .entries) (n .result) (b .loop .i) (a .polyphony) (a .channel) (b .loop .before) _ (omega arith) (b .loop .inv .3)
+    ∙ ap (λ (l : List Entry). lookup (a .channel) (sharesFrom (a .polyphony) 0 l)) (all-entries (a .table) (n .result) (b .loop .inv .2) (n .ensures .0))
 
 pub share-of-spec : {M : Type 1} → statement M
 share-of-spec =

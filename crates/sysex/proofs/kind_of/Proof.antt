@@ -15,8 +15,8 @@ returns : tie.Need-returns
 unfolding kindOf
 returns c =
     let s = c .before .before .before in
-    let size = bytes-37 (s .args .p) (s .good .0) in
-    simp (mip-head (s .args .id) (s .args .p .count) (s .args .p .bytes) size ∙ (rw (c .before .starts-with .ensures) at (c .if1 .taken)))
+    let size = bytes-37 (s .args .parser) (s .good .0) in
+    simp (mip-head (s .args .id) (s .args .parser .count) (s .args .parser .bytes) size ∙ (rw (c .before .starts-with .ensures) at (c .if1 .taken)))
 
 starts-with-requires-2 : tie.Need-starts-with-requires-2
 starts-with-requires-2 c κs = search needs
@@ -26,10 +26,10 @@ unfolding kindOf
 returns-2 c =
     let b = c .before .before in
     let s = b .before .before .before in
-    let size = bytes-37 (s .args .p) (s .good .0) in
+    let size = bytes-37 (s .args .parser) (s .good .0) in
     simp (
-      mip-head (s .args .id) (s .args .p .count) (s .args .p .bytes) size ∙ (rw (b .before .starts-with .ensures) at (b .if1 .left)),
-      system-on-head (s .args .id) (s .args .p .count) (s .args .p .bytes) size ∙ (rw (c .before .starts-with2 .ensures) at (c .if2 .taken)),
+      mip-head (s .args .id) (s .args .parser .count) (s .args .parser .bytes) size ∙ (rw (b .before .starts-with .ensures) at (b .if1 .left)),
+      system-on-head (s .args .id) (s .args .parser .count) (s .args .parser .bytes) size ∙ (rw (c .before .starts-with2 .ensures) at (c .if2 .taken)),
     )
 
 returns-3 : tie.Need-returns-3
@@ -37,10 +37,10 @@ unfolding kindOf
 returns-3 c =
     let b = c .before .before in
     let s = b .before .before .before in
-    let size = bytes-37 (s .args .p) (s .good .0) in
+    let size = bytes-37 (s .args .parser) (s .good .0) in
     simp (
-      mip-head (s .args .id) (s .args .p .count) (s .args .p .bytes) size ∙ (rw (b .before .starts-with .ensures) at (b .if1 .left)),
-      system-on-head (s .args .id) (s .args .p .count) (s .args .p .bytes) size ∙ (rw (c .before .starts-with2 .ensures) at (c .if2 .left)),
+      mip-head (s .args .id) (s .args .parser .count) (s .args .parser .bytes) size ∙ (rw (b .before .starts-with .ensures) at (b .if1 .left)),
+      system-on-head (s .args .id) (s .args .parser .count) (s .args .parser .bytes) size ∙ (rw (c .before .starts-with2 .ensures) at (c .if2 .left)),
     )
 
 pub kind-of-spec : {M : Type 1} → statement M

@@ -4,8 +4,8 @@ use mathlib.Core.Path.{_≡_, sym, ap, _∙_}
 use Prim.Native.Nat.{ℕ, _≤_, _-_}
 use native.Mathlib.Omega.{arith}
 use lib.ListN.{length, getD, List·getD-eq-default}
-use Rattle.channels.specs.Channel.{fresh, channelAt}
-use Rattle.instrument.specs.Instrument.{channelOf}
+use Rattle.channels.specs.Channel.{fresh}
+use Rattle.instrument.specs.Instrument.{channelAt, channelOf}
 use Rattle.instrument.proofs.Elements.{any-default}
 use Rattle.instrument.proofs.Sizes.{channels-16}
 use borrow.Author.Needs.{needs}
@@ -43,7 +43,7 @@ returns-2 c =
     let s = b .before .before in
     let l = s .args .self .channels in
     let n = channels-16 (s .args .self) (s .good .0) in
-    let h : length l ≤ s .args .c - 1 = omega (arith, b .less .ensures) in
+    let h : length l ≤ s .args .channel - 1 = omega (arith, b .less .ensures) in
     c .fresh .ensures ∙ sym (List·getD-eq-default l fresh h)
 
 pub channel-of-spec : {M : Type 1} → statement M

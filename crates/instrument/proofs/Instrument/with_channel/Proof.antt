@@ -2,8 +2,7 @@
 -- Assumes nothing.
 use mathlib.Core.Path.{ap, _∙_}
 use Prim.Native.Nat.{ℕ}
-use Rattle.channels.specs.Channel.{replaced}
-use Rattle.instrument.specs.Instrument.{withChannels, withChannel}
+use Rattle.instrument.specs.Instrument.{replaced, withChannels, withChannel}
 use borrow.Author.Needs.{needs}
 use Rattle.instrument.proofs.Instrument.with_channel.Statement.{statement}
 use Rattle.instrument.proofs.Instrument.with_channel.Tie as tie

@@ -43,7 +43,7 @@ loop-less c = omega arith
 loop-again : tie.Need-loop-again Inv-loop μ-loop
 loop-again c =
     let l = c .before .loop in
-    let p = c .before .before .args .p in
+    let p = c .before .before .args .polyphony in
     (omega arith, simp length-set (omega arith), places-turn (wanted p) (entry 0 p) (l .i) (l .entries) _ (omega arith) (omega arith) (l .inv .2) (sym (List·getD-map (λ (c : ℕ). entry c p) startOrder (l .i) 0)))
 
 returns : tie.Need-returns Inv-loop μ-loop

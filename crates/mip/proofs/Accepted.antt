@@ -14,9 +14,9 @@ use Rattle.table.specs.declared.Entry.{Entry}
 use Rattle.table.specs.Laws.{Rising, Distinct, Channels, WellFormed}
 use Rattle.table.specs.Table.{entry, entriesOf, tableOf, listed}
 use Rattle.table.proofs.Places.{entries-of-table}
-use Rattle.sysex.specs.declared.Verdict.the-variants.{Accepted}
-use Rattle.sysex.specs.Laws.{AcceptedTable}
-use Rattle.sysex.specs.SysEx.{pairs, faulty, refused, judgedBy, judged}
+use Rattle.mip.specs.declared.Verdict.the-variants.{Accepted}
+use Rattle.mip.specs.Laws.{AcceptedTable}
+use Rattle.mip.specs.Mip.{pairs, faulty, refused, judgedBy, judged}
 
 listed-append : (c : ℕ) (l m : List Entry) → listed c (l ++ m) ≡ listed c l || listed c m
 unfolding listed

@@ -4,7 +4,7 @@ use mathlib.Core.Path.{_≡_}
 use mathlib.Core.List.{List}
 use Rattle.table.specs.Laws.{WellFormed}
 use Rattle.table.specs.Table.{entriesOf, tableOf}
-use Rattle.sysex.specs.SysEx.{pairs, judged}
+use Rattle.mip.specs.Mip.{pairs, judged}
 
 -- its bytes after 0B 01 are l: its table is the message itself, at most sixteen channels, none listed twice, with values that never fall
 pub record AcceptedTable (l : List ℕ) : Type 0 where
