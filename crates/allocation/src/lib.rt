@@ -1,13 +1,12 @@
 // Which generator a note gets (document 01, "Note-on, velocity above 0"): steps 1 to 5 and the assignment, by value, for every value of the generators and
 // of the table. Assumes nothing.
 ghost use mathlib.Core.Path.{_≡_};
-ghost use Rattle.allocation.specs.Allocation.{cleared, stolen, stealOf, step5, orElse5, choice, allocated, noteOn};
+ghost use Rattle.allocation.specs.Allocation.{cleared, choice, allocated, noteOn};
 use releases::Change;
 use candidates::Found;
 use candidates::Want;
 use generators::Generators;
 use silence::Leaving;
-use stealing::Loser;
 use table::Table;
 
 // What the generator of a new note was.
@@ -44,19 +43,6 @@ fn clear(s: Generators, rhythm: bool, channel: u8, key: u8) -> Generators
     released
 }
 
-// Step 5: the oldest busy generator of the channel of lowest priority over its share.
-fn steal(s: Generators, t: Table, p: u8, channel: u8) -> Taken
-    ensures { λ r. ⌜ r ≡ step5 s t p channel ⌝ }
-{
-    let Loser::Channel(d) = stealing::steal_from(s, t, p, channel) else {
-        return Taken::Refused(11);
-    };
-    let Found::At(g) = candidates::oldest(s, Want::BusyOn(d)) else {
-        return Taken::Refused(11);
-    };
-    Taken::Took(g, Was::Stolen)
-}
-
 // Steps 4 and 5: idle before releasing before stolen.
 fn choose(s: Generators, t: Table, p: u8, channel: u8) -> Taken
     ensures { λ r. ⌜ r ≡ choice s t p channel ⌝ }
@@ -67,7 +53,10 @@ fn choose(s: Generators, t: Table, p: u8, channel: u8) -> Taken
     if let Found::At(g) = candidates::oldest(s, Want::Releasing) {
         return Taken::Took(g, Was::Release);
     }
-    steal(s, t, p, channel)
+    if let Found::At(g) = stealing::victim(s, t, p, channel) {
+        return Taken::Took(g, Was::Stolen);
+    }
+    Taken::Refused(11)
 }
 
 // A note-on with a velocity above 0: the generators after it, and which one it took.

@@ -1,16 +1,18 @@
-// Who loses a note (document 01, "Note-on", step 5): the channel to steal from, for every value of the generators and of the table.
-// Assumes nothing.
+// Who loses a note (document 01, "Note-on", step 5): the channel to steal from, and the generator that is stolen, for every value of the generators and of
+// the table. Assumes nothing.
 ghost use mathlib.Core.Path.{_≡_};
 ghost use Prim.Native.Nat.{_-_};
 ghost use mathlib.Core.Bool.{_&&_};
 ghost use lib.Dec.{leb, ltb};
-ghost use Rattle.stealing.specs.Stealing.{counted, stealFrom};
+ghost use Rattle.stealing.specs.Stealing.{counted, stealFrom, victim};
+use candidates::Found;
+use candidates::Want;
 use generators::Generators;
 use table::Entry;
 use table::Table;
 
 // The channel to steal from.
-pub enum Loser {
+enum Loser {
     // The channel of lowest priority among those over their share, the new note counted.
     Channel(u8),
     // No channel is over its share.
@@ -29,7 +31,7 @@ fn is_over(s: Generators, e: Entry, before: u8, p: u8, new: u8) -> bool
 }
 
 // The channel of lowest priority over its share: from the end of the table, so that mostly few channels are counted.
-pub fn steal_from(s: Generators, t: Table, p: u8, new: u8) -> Loser
+fn steal_from(s: Generators, t: Table, p: u8, new: u8) -> Loser
     ensures { λ r. ⌜ r ≡ stealFrom s t p new ⌝ }
 {
     let entries = t.entries;
@@ -45,4 +47,14 @@ pub fn steal_from(s: Generators, t: Table, p: u8, new: u8) -> Loser
         }
     }
     Loser::Nobody
+}
+
+// The generator that a new note of the channel steals where all are busy: the oldest busy one of the channel to steal from.
+pub fn victim(s: Generators, t: Table, p: u8, new: u8) -> Found
+    ensures { λ r. ⌜ r ≡ victim s t p new ⌝ }
+{
+    let Loser::Channel(d) = steal_from(s, t, p, new) else {
+        return Found::Nothing;
+    };
+    candidates::oldest(s, Want::BusyOn(d))
 }
