@@ -2,6 +2,7 @@
 use Prim.Native.Nat.{ℕ, _+_}
 use mathlib.Core.List.{List, [], _∷_, _++_}
 use lib.ListN.{replicate}
+use Rattle.generators.specs.Generators.{held}
 use Rattle.allocation.specs.declared.Was.the-variants.{Idle, Release, Stolen}
 use Rattle.shares.specs.declared.MaskAnswer.{MaskAnswer}
 use Rattle.shares.specs.declared.MaskAnswer.the-variants.{IsMasked, IsUnmasked}
@@ -31,7 +32,7 @@ fresh p = started p 0 .device
 -- what an example looks at
 pub data Seen : Type 0 where
   answer : Answer → Seen
-  -- state (1: held), channel and key
+  -- state, channel and key
   generator : GeneratorAnswer → Seen
   mask : MaskAnswer → Seen
   share : ShareAnswer → Seen
@@ -105,10 +106,10 @@ computed p = P1 ++ P2 ++ P3 p ++ P4 p ++ P5 ++ P6 ++ P7 ++ P8 ++ P9
 unfoldable pub printed : List Seen
 printed =
     -- P1: "A note on 3 steals from 2", whose oldest note, key 60, is on generator 2
-    generator (GeneratorIs 1 2 60)
+    generator (GeneratorIs held 2 60)
     ∷ answer (Note 3 62 2 Stolen)
     -- P2: "a further note on 3 steals from 3", whose oldest is on 8
-    ∷ generator (GeneratorIs 1 3 60)
+    ∷ generator (GeneratorIs held 3 60)
     ∷ answer (Note 3 63 8 Stolen)
     -- "P3: value P is unmasked; P4: P + 1 is masked. P5: P 10, values 5, 5 give shares 5, 0"
     ∷ mask IsUnmasked
@@ -116,11 +117,11 @@ printed =
     ∷ share (ShareIs 5)
     ∷ share (ShareIs 0)
     -- P6: "steals from channel 1"; P7: "number 11"
-    ∷ generator (GeneratorIs 1 1 60)
+    ∷ generator (GeneratorIs held 1 60)
     ∷ answer (Note 10 36 0 Stolen)
     ∷ answer (NoNote 11 1 60)
     -- P8: "key 46 goes idle and its generator takes 42"
-    ∷ generator (GeneratorIs 1 10 46)
+    ∷ generator (GeneratorIs held 10 46)
     ∷ answer (Note 10 42 0 Idle)
     -- P9: "32 bytes of pairs pass number 5; 33 do not"
     ∷ answer Done

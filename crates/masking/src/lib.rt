@@ -7,7 +7,7 @@ ghost use lib.Dec.{eqb};
 ghost use lib.ListN.{getD};
 ghost use Rattle.loops.specs.Cases.{if_then_else_};
 ghost use Rattle.loops.specs.Passes.{upTo, marksOf};
-ghost use Rattle.generators.specs.Generators.{generator, isBusy};
+ghost use Rattle.generators.specs.Generators.{generator, releasing, isBusy};
 ghost use Rattle.shares.specs.Shares.{shareOf, isMasked};
 ghost use Rattle.masking.specs.Masking.{isNewlyMasked, masked};
 use generators::Generators;
@@ -47,7 +47,7 @@ fn marks(p: u8, old: Table, new: Table) -> [u8; 256]
 
 // The states after the busy generators of marked channels were released.
 fn release(state: [u8; 64], channel: [u8; 64], marks: [u8; 256]) -> [u8; 64]
-    ensures { λ r. ⌜ r ≡ upTo (λ g. if isBusy (generator (getD state g 0) 0 0) && not (eqb (getD marks (getD channel g 0) 0) 0) then 3 else getD state g 0) 64 ⌝ }
+    ensures { λ r. ⌜ r ≡ upTo (λ g. if isBusy (generator (getD state g 0) 0 0) && not (eqb (getD marks (getD channel g 0) 0) 0) then releasing else getD state g 0) 64 ⌝ }
 {
     let mut out = state;
     let mut i: usize = 0;
