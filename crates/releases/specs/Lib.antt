@@ -1,3 +1,2 @@
 -- Changes of state: keys, pedals and masks.
 pub mod Releases
-pub mod Selection

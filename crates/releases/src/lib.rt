@@ -1,13 +1,11 @@
 // Changes of state: what keys, pedals and masks do to notes (document 01, "Note-on", step 2, and "Other messages"), by value, for every value,
 // in one pass over the generators. Assumes nothing.
 ghost use mathlib.Core.Path.{_≡_};
-ghost use mathlib.Core.Bool.{Bool, true, false};
 ghost use lib.ListN.{getD};
 ghost use Rattle.loops.specs.Cases.{if_then_else_};
 ghost use Rattle.loops.specs.Passes.{upTo};
-ghost use Rattle.generators.specs.Generators.{Generator, generator};
+ghost use Rattle.generators.specs.Generators.{generator};
 ghost use Rattle.releases.specs.Releases.{changes, keyUp, stateAfter, changed};
-ghost use Rattle.releases.specs.Selection.{oneKey, everyKey, selects};
 use generators::Generators;
 
 // What happens to the notes of a channel.
@@ -24,49 +22,16 @@ pub enum Change {
     PedalUp(u8),
 }
 
-// Generators by plain numbers: held ones, sustained ones or both, of a channel, and of one key or of every key.
-struct Selection {
-    held: bool,
-    sustained: bool,
-    channel: u8,
-    every: bool,
-    key: u8,
-}
-
-fn one_key(held: bool, sustained: bool, channel: u8, key: u8) -> Selection
-    ensures { λ r. ⌜ r ≡ oneKey held sustained channel key ⌝ }
-{
-    Selection {
-        held: held,
-        sustained: sustained,
-        channel: channel,
-        every: false,
-        key: key,
-    }
-}
-
-fn every_key(held: bool, sustained: bool, channel: u8) -> Selection
-    ensures { λ r. ⌜ r ≡ everyKey held sustained channel ⌝ }
-{
-    Selection {
-        held: held,
-        sustained: sustained,
-        channel: channel,
-        every: true,
-        key: 0,
-    }
-}
-
-// The generators that a change means.
-fn select(h: Change) -> Selection
-    ensures { λ r. ⌜ ((x : Generator) → selects r x ≡ changes h x) ⌝ }
+// Whether a change means a generator with this state, channel and key.
+fn changes(h: Change, state: u8, channel: u8, key: u8) -> bool
+    ensures { λ r. ⌜ r ≡ changes h (generator state channel key) ⌝ }
 {
     match h {
-        Change::ReleaseNote(c, k) => one_key(true, true, c, k),
-        Change::ReleaseChannel(c) => every_key(true, true, c),
-        Change::NoteOff(_, c, k) => one_key(true, false, c, k),
-        Change::AllNotesOff(_, c) => every_key(true, false, c),
-        Change::PedalUp(c) => every_key(false, true, c),
+        Change::ReleaseNote(c, k) => (generators::is_busy(state) & (channel == c)) & (key == k),
+        Change::ReleaseChannel(c) => generators::is_busy(state) & (channel == c),
+        Change::NoteOff(_, c, k) => ((state == generators::HELD) & (channel == c)) & (key == k),
+        Change::AllNotesOff(_, c) => (state == generators::HELD) & (channel == c),
+        Change::PedalUp(c) => (state == generators::SUSTAINED) & (channel == c),
     }
 }
 
@@ -93,27 +58,15 @@ fn state_after(h: Change) -> u8
     }
 }
 
-fn selects(w: Selection, state: u8, channel: u8, key: u8) -> bool
-    ensures { λ r. ⌜ r ≡ selects w (generator state channel key) ⌝ }
+// The states after a change.
+fn states_after(state: [u8; 64], channel: [u8; 64], keys: [u8; 64], h: Change) -> [u8; 64]
+    ensures { λ r. ⌜ r ≡ upTo (λ g. if changes h (generator (getD state g 0) (getD channel g 0) (getD keys g 0)) then stateAfter h else getD state g 0) 64 ⌝ }
 {
-    ((w.held & (state == generators::HELD)) | (w.sustained & (state == generators::SUSTAINED)))
-        & ((channel == w.channel) & (w.every | (key == w.key)))
-}
-
-// The states after the selected generators went to another.
-fn states_after(
-    state: [u8; 64],
-    channel: [u8; 64],
-    keys: [u8; 64],
-    w: Selection,
-    to: u8,
-) -> [u8; 64]
-    ensures { λ r. ⌜ r ≡ upTo (λ g. if selects w (generator (getD state g 0) (getD channel g 0) (getD keys g 0)) then to else getD state g 0) 64 ⌝ }
-{
+    let to = state_after(h);
     let mut out = state;
     let mut i: usize = 0;
     while i < 64 {
-        out[i] = loops::if_else(selects(w, state[i], channel[i], keys[i]), to, state[i]);
+        out[i] = loops::if_else(changes(h, state[i], channel[i], keys[i]), to, state[i]);
         i += 1;
     }
     out
@@ -126,7 +79,7 @@ pub fn apply(s: Generators, h: Change) -> Generators
     let state = s.state;
     let channel = s.channel;
     let keys = s.key;
-    let after = states_after(state, channel, keys, select(h), state_after(h));
+    let after = states_after(state, channel, keys, h);
     let mut next = s;
     next.state = after;
     next
