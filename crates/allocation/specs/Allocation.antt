@@ -31,7 +31,7 @@ isStolen Idle = false
 isStolen Release = false
 isStolen Stolen = true
 
--- a generator that was found is taken, and this is what it was; else it is the other
+-- a generator that was found is taken, with what it was; where none was found, the next decides
 abbrev pub orElse : Found → Was → Taken → Taken
 orElse (At g) w t = Took g w
 orElse Nothing w t = t

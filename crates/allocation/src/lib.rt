@@ -33,10 +33,10 @@ pub struct Allocated {
 }
 
 // Steps 2 and 3: the key's earlier note is released and, on a rhythm channel, other drums of its group fall silent.
-fn clear(s: Generators, rhythm: bool, channel: u8, key: u8) -> Generators
-    ensures { λ r. ⌜ r ≡ cleared rhythm channel key s ⌝ }
+fn clear(generators: Generators, rhythm: bool, channel: u8, key: u8) -> Generators
+    ensures { λ r. ⌜ r ≡ cleared rhythm channel key generators ⌝ }
 {
-    let released = releases::apply(s, Change::ReleaseNote(channel, key));
+    let released = releases::apply(generators, Change::ReleaseNote(channel, key));
     if rhythm {
         return silence::fall_silent(released, Leaving::Group(channel, key));
     }
@@ -44,37 +44,37 @@ fn clear(s: Generators, rhythm: bool, channel: u8, key: u8) -> Generators
 }
 
 // Steps 4 and 5: idle before releasing before stolen.
-fn choose(s: Generators, t: Table, p: u8, channel: u8) -> Taken
-    ensures { λ r. ⌜ r ≡ choice s t p channel ⌝ }
+fn choose(generators: Generators, table: Table, polyphony: u8, channel: u8) -> Taken
+    ensures { λ r. ⌜ r ≡ choice generators table polyphony channel ⌝ }
 {
-    if let Found::At(g) = candidates::lowest_idle(s, p) {
+    if let Found::At(g) = candidates::lowest_idle(generators, polyphony) {
         return Taken::Took(g, Was::Idle);
     }
-    if let Found::At(g) = candidates::oldest(s, Want::Releasing) {
+    if let Found::At(g) = candidates::oldest(generators, Want::Releasing) {
         return Taken::Took(g, Was::Release);
     }
-    if let Found::At(g) = stealing::victim(s, t, p, channel) {
+    if let Found::At(g) = stealing::victim(generators, table, polyphony, channel) {
         return Taken::Took(g, Was::Stolen);
     }
     Taken::Refused(11)
 }
 
 // A note-on with a velocity above 0: the generators after it, and which one it took.
-pub fn note_on(s: Generators, t: Table, p: u8, rhythm: bool, channel: u8, key: u8) -> Allocated
-    ensures { λ r. ⌜ r ≡ noteOn s t p rhythm channel key ⌝ }
+pub fn note_on(generators: Generators, table: Table, polyphony: u8, rhythm: bool, channel: u8, key: u8) -> Allocated
+    ensures { λ r. ⌜ r ≡ noteOn generators table polyphony rhythm channel key ⌝ }
 {
-    if shares::masks(t, p, channel) {
+    if shares::masks(table, polyphony, channel) {
         return Allocated {
             taken: Taken::Refused(10),
-            generators: s,
+            generators: generators,
         };
     }
-    let rest = clear(s, rhythm, channel, key);
-    let taken = choose(rest, t, p, channel);
+    let rest = clear(generators, rhythm, channel, key);
+    let taken = choose(rest, table, polyphony, channel);
     let Taken::Took(g, _) = taken else {
         return Allocated {
             taken: taken,
-            generators: s,
+            generators: generators,
         };
     };
     Allocated {

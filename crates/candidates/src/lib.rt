@@ -30,35 +30,35 @@ pub enum Found {
 }
 
 // Whether a generator with this state and channel is wanted.
-fn is_wanted(w: Want, state: u8, channel: u8) -> bool
-    ensures { λ r. ⌜ r ≡ wanted w (generator state channel 0) ⌝ }
+fn is_wanted(want: Want, state: u8, channel: u8) -> bool
+    ensures { λ r. ⌜ r ≡ wanted want (generator state channel 0) ⌝ }
 {
-    match w {
+    match want {
         Want::Releasing => state == generators::RELEASING,
         Want::BusyOn(c) => generators::is_busy(state) & (channel == c),
     }
 }
 
-fn how_many(state: [u8; 64], channel: [u8; 64], w: Want) -> u8
-    ensures { λ r. ⌜ (r ≡ total (λ g. bit (wanted w (generator (getD state g 0) (getD channel g 0) 0))) 64) × (r ≤ 64) ⌝ }
+fn how_many(state: [u8; 64], channel: [u8; 64], want: Want) -> u8
+    ensures { λ r. ⌜ (r ≡ total (λ g. bit (wanted want (generator (getD state g 0) (getD channel g 0) 0))) 64) × (r ≤ 64) ⌝ }
 {
     let mut n: u8 = 0;
     let mut i: usize = 0;
     while i < 64 {
-        n = n + loops::one(is_wanted(w, state[i], channel[i]));
+        n = n + loops::one(is_wanted(want, state[i], channel[i]));
         i += 1;
     }
     n
 }
 
 // A mark for each generator that is wanted.
-fn marks(state: [u8; 64], channel: [u8; 64], w: Want) -> [u8; 256]
-    ensures { λ r. ⌜ r ≡ marksOf (λ g. wanted w (generator (getD state g 0) (getD channel g 0) 0)) ⌝ }
+fn marks(state: [u8; 64], channel: [u8; 64], want: Want) -> [u8; 256]
+    ensures { λ r. ⌜ r ≡ marksOf (λ g. wanted want (generator (getD state g 0) (getD channel g 0) 0)) ⌝ }
 {
     let mut out = [0u8; 256];
     let mut i: usize = 0;
     while i < 64 {
-        out[i] = loops::one(is_wanted(w, state[i], channel[i]));
+        out[i] = loops::one(is_wanted(want, state[i], channel[i]));
         i += 1;
     }
     out
@@ -82,12 +82,12 @@ fn first_marked(order: Ages, marks: [u8; 256]) -> Found
     Found::Nothing
 }
 
-// Step 4 of a note-on: the idle generator of lowest number among the first p.
-pub fn lowest_idle(s: Generators, p: u8) -> Found
-    ensures { λ r. ⌜ r ≡ lowestIdle s p ⌝ }
+// Step 4 of a note-on: the idle generator of lowest number among the first P.
+pub fn lowest_idle(generators: Generators, polyphony: u8) -> Found
+    ensures { λ r. ⌜ r ≡ lowestIdle generators polyphony ⌝ }
 {
-    let state = s.state;
-    let n = loops::at_most(64, p);
+    let state = generators.state;
+    let n = loops::at_most(64, polyphony);
     let mut g: u8 = 0;
     while g < n {
         let i = g as usize;
@@ -100,23 +100,23 @@ pub fn lowest_idle(s: Generators, p: u8) -> Found
 }
 
 // The oldest generator of those wanted. Mostly there is none: the order of age is gone through only where there is one.
-pub fn oldest(s: Generators, w: Want) -> Found
-    ensures { λ r. ⌜ r ≡ oldest w s ⌝ }
+pub fn oldest(generators: Generators, want: Want) -> Found
+    ensures { λ r. ⌜ r ≡ oldest want generators ⌝ }
 {
-    let state = s.state;
-    let channel = s.channel;
-    if how_many(state, channel, w) == 0 {
+    let state = generators.state;
+    let channel = generators.channel;
+    if how_many(state, channel, want) == 0 {
         return Found::Nothing;
     }
-    let order = s.ages;
-    first_marked(order, marks(state, channel, w))
+    let order = generators.ages;
+    first_marked(order, marks(state, channel, want))
 }
 
 // How many generators are busy on a channel.
-pub fn busy_count(s: Generators, channel: u8) -> u8
-    ensures { λ r. ⌜ (r ≡ busyCount s channel) × (r ≤ 64) ⌝ }
+pub fn busy_count(generators: Generators, channel: u8) -> u8
+    ensures { λ r. ⌜ (r ≡ busyCount generators channel) × (r ≤ 64) ⌝ }
 {
-    let state = s.state;
-    let channels = s.channel;
+    let state = generators.state;
+    let channels = generators.channel;
     how_many(state, channels, Want::BusyOn(channel))
 }

@@ -23,10 +23,10 @@ pub enum Change {
 }
 
 // Whether a change means a generator with this state, channel and key.
-fn changes(h: Change, state: u8, channel: u8, key: u8) -> bool
-    ensures { λ r. ⌜ r ≡ changes h (generator state channel key) ⌝ }
+fn changes(change: Change, state: u8, channel: u8, key: u8) -> bool
+    ensures { λ r. ⌜ r ≡ changes change (generator state channel key) ⌝ }
 {
-    match h {
+    match change {
         Change::ReleaseNote(c, k) => (generators::is_busy(state) & (channel == c)) & (key == k),
         Change::ReleaseChannel(c) => generators::is_busy(state) & (channel == c),
         Change::NoteOff(_, c, k) => ((state == generators::HELD) & (channel == c)) & (key == k),
@@ -46,10 +46,10 @@ fn key_up(pedal: bool) -> u8
 }
 
 // The state that they go to; never IDLE, since a generator that falls silent leaves the order of age too.
-fn state_after(h: Change) -> u8
-    ensures { λ r. ⌜ r ≡ stateAfter h ⌝ }
+fn state_after(change: Change) -> u8
+    ensures { λ r. ⌜ r ≡ stateAfter change ⌝ }
 {
-    match h {
+    match change {
         Change::ReleaseNote(_, _) => generators::RELEASING,
         Change::ReleaseChannel(_) => generators::RELEASING,
         Change::NoteOff(pedal, _, _) => key_up(pedal),
@@ -59,28 +59,28 @@ fn state_after(h: Change) -> u8
 }
 
 // The states after a change.
-fn states_after(state: [u8; 64], channel: [u8; 64], keys: [u8; 64], h: Change) -> [u8; 64]
-    ensures { λ r. ⌜ r ≡ upTo (λ g. if changes h (generator (getD state g 0) (getD channel g 0) (getD keys g 0)) then stateAfter h else getD state g 0) 64 ⌝ }
+fn states_after(state: [u8; 64], channel: [u8; 64], keys: [u8; 64], change: Change) -> [u8; 64]
+    ensures { λ r. ⌜ r ≡ upTo (λ g. if changes change (generator (getD state g 0) (getD channel g 0) (getD keys g 0)) then stateAfter change else getD state g 0) 64 ⌝ }
 {
-    let to = state_after(h);
+    let to = state_after(change);
     let mut out = state;
     let mut i: usize = 0;
     while i < 64 {
-        out[i] = loops::if_else(changes(h, state[i], channel[i], keys[i]), to, state[i]);
+        out[i] = loops::if_else(changes(change, state[i], channel[i], keys[i]), to, state[i]);
         i += 1;
     }
     out
 }
 
 // The generators after a change.
-pub fn apply(s: Generators, h: Change) -> Generators
-    ensures { λ r. ⌜ r ≡ changed h s ⌝ }
+pub fn apply(generators: Generators, change: Change) -> Generators
+    ensures { λ r. ⌜ r ≡ changed change generators ⌝ }
 {
-    let state = s.state;
-    let channel = s.channel;
-    let keys = s.key;
-    let after = states_after(state, channel, keys, h);
-    let mut next = s;
+    let state = generators.state;
+    let channel = generators.channel;
+    let keys = generators.key;
+    let after = states_after(state, channel, keys, change);
+    let mut next = generators;
     next.state = after;
     next
 }

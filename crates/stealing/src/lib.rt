@@ -19,30 +19,30 @@ enum Loser {
     Nobody,
 }
 
-// Whether the channel of entry e, unmasked, is over its share with a new note of channel `new`.
-fn is_over(s: Generators, e: Entry, before: u8, p: u8, new: u8) -> bool
-    ensures { λ r. ⌜ r ≡ (leb (e .value) p && ltb (e .value - before) (counted s new (e .channel))) ⌝ }
+// Whether the channel of an entry, unmasked, is over its share with a new note of `channel`.
+fn is_over(generators: Generators, entry: Entry, before: u8, polyphony: u8, channel: u8) -> bool
+    ensures { λ r. ⌜ r ≡ (leb (entry .value) polyphony && ltb (entry .value - before) (counted generators channel (entry .channel))) ⌝ }
 {
-    if p < e.value {
+    if polyphony < entry.value {
         return false;
     }
-    let count = candidates::busy_count(s, e.channel) + loops::one(e.channel == new);
-    loops::less(e.value, before) < count
+    let count = candidates::busy_count(generators, entry.channel) + loops::one(entry.channel == channel);
+    loops::less(entry.value, before) < count
 }
 
 // The channel of lowest priority over its share: from the end of the table, so that mostly few channels are counted.
-fn steal_from(s: Generators, t: Table, p: u8, new: u8) -> Loser
-    ensures { λ r. ⌜ r ≡ stealFrom s t p new ⌝ }
+fn steal_from(generators: Generators, table: Table, polyphony: u8, channel: u8) -> Loser
+    ensures { λ r. ⌜ r ≡ stealFrom generators table polyphony channel ⌝ }
 {
-    let entries = t.entries;
-    let mut i = loops::at_most(16, t.count);
+    let entries = table.entries;
+    let mut i = loops::at_most(16, table.count);
     while 0 < i {
         i -= 1;
         let e = entries[i as usize];
         // The entry before, which the first has not: read here, since a function of the table would copy it for each entry.
         let x = entries[loops::less(i, 1) as usize];
         let before = loops::if_else(i == 0, 0, x.value);
-        if is_over(s, e, before, p, new) {
+        if is_over(generators, e, before, polyphony, channel) {
             return Loser::Channel(e.channel);
         }
     }
@@ -50,11 +50,11 @@ fn steal_from(s: Generators, t: Table, p: u8, new: u8) -> Loser
 }
 
 // The generator that a new note of the channel steals where all are busy: the oldest busy one of the channel to steal from.
-pub fn victim(s: Generators, t: Table, p: u8, new: u8) -> Found
-    ensures { λ r. ⌜ r ≡ victim s t p new ⌝ }
+pub fn victim(generators: Generators, table: Table, polyphony: u8, channel: u8) -> Found
+    ensures { λ r. ⌜ r ≡ victim generators table polyphony channel ⌝ }
 {
-    let Loser::Channel(d) = steal_from(s, t, p, new) else {
+    let Loser::Channel(d) = steal_from(generators, table, polyphony, channel) else {
         return Found::Nothing;
     };
-    candidates::oldest(s, Want::BusyOn(d))
+    candidates::oldest(generators, Want::BusyOn(d))
 }

@@ -12,10 +12,10 @@ use Rattle.candidates.proofs.how_many.Statement.{statement}
 use Rattle.candidates.proofs.how_many.Tie as tie
 
 abbrev Inv-loop : tie.InvT-loop
-Inv-loop w state channel n₀ i₀ n i = (i ≤ 64) × (n ≤ i) × (n ≡ total (λ g. bit (wantedAt w state channel g)) i)
+Inv-loop want state channel n₀ i₀ n i = (i ≤ 64) × (n ≤ i) × (n ≡ total (λ g. bit (wantedAt want state channel g)) i)
 
 abbrev μ-loop : tie.MeasureT-loop
-μ-loop w state channel n₀ i₀ n i = 64 - i
+μ-loop want state channel n₀ i₀ n i = 64 - i
 
 loop-holds : tie.Need-loop-holds Inv-loop μ-loop
 unfolding total
@@ -47,7 +47,7 @@ loop-again c =
     let l = c .before .before .before .loop in
     let a = c .before .before .before .before .args in
     let x = c .one .ensures .0 ∙ ap bit (c .before .is-wanted .ensures) in
-    (omega arith, omega (arith, c .one .ensures .1), total-next (λ (g : ℕ). bit (wantedAt (a .w) (a .t1) (a .t2) g)) (l .i) (l .n) _ (l .inv .2) x)
+    (omega arith, omega (arith, c .one .ensures .1), total-next (λ (g : ℕ). bit (wantedAt (a .want) (a .t1) (a .t2) g)) (l .i) (l .n) _ (l .inv .2) x)
 
 returns : tie.Need-returns Inv-loop μ-loop
 returns c =

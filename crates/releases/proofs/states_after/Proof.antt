@@ -18,13 +18,13 @@ use Rattle.releases.proofs.states_after.Tie as tie
 
 -- the state of generator g afterwards
 abbrev rule : Change → List ℕ → List ℕ → List ℕ → ℕ → ℕ
-rule h state channel keys g = if changes h (generator (getD state g 0) (getD channel g 0) (getD keys g 0)) then stateAfter h else getD state g 0
+rule change state channel keys g = if changes change (generator (getD state g 0) (getD channel g 0) (getD keys g 0)) then stateAfter change else getD state g 0
 
 abbrev Inv-loop : tie.InvT-loop
-Inv-loop h state channel keys to out₀ i₀ out i = (i ≤ 64) × (length out₀ ≡ 64) × (out ≡ upTo (rule h state channel keys) i ++ drop i out₀)
+Inv-loop change state channel keys to out₀ i₀ out i = (i ≤ 64) × (length out₀ ≡ 64) × (out ≡ upTo (rule change state channel keys) i ++ drop i out₀)
 
 abbrev μ-loop : tie.MeasureT-loop
-μ-loop h state channel keys to out₀ i₀ out i = 64 - i
+μ-loop change state channel keys to out₀ i₀ out i = 64 - i
 
 state-after-requires : tie.Need-state-after-requires Inv-loop μ-loop
 state-after-requires c κs = search needs
@@ -66,7 +66,7 @@ loop-again c =
     let b = c .before .before .before .before in
     let a = b .before .before .args in
     let x = rw (c .before .changes .ensures, b .state-after .ensures) at (c .if-else .ensures) in
-    (omega arith, l .inv .1, fill-next (rule (a .h) (a .t1) (a .t2) (a .t3)) 0 (a .t1) (l .out) (l .i) _ (omega arith) (l .inv .2) x)
+    (omega arith, l .inv .1, fill-next (rule (a .change) (a .t1) (a .t2) (a .t3)) 0 (a .t1) (l .out) (l .i) _ (omega arith) (l .inv .2) x)
 
 returns : tie.Need-returns Inv-loop μ-loop
 returns c = let l = c .before .loop in fill-end _ _ _ _ 64 (omega arith) (omega arith) (l .inv .2)
