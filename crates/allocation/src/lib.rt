@@ -1,11 +1,11 @@
 // Which generator a note gets (document 01, "Note-on, velocity above 0"): steps 1 to 5 and the assignment, by value, for every value of the generators and
 // of the table. Assumes nothing.
 ghost use mathlib.Core.Path.{_≡_};
-ghost use Rattle.allocation.specs.Allocation.{cleared, choice, allocated, noteOn};
-use releases::Change;
+ghost use Rattle.allocation.specs.Allocation.{cleared, choice, noteOn};
 use candidates::Found;
 use candidates::Want;
 use generators::Generators;
+use releases::Change;
 use silence::Leaving;
 use table::Table;
 
@@ -60,7 +60,14 @@ fn choose(generators: Generators, table: Table, polyphony: u8, channel: u8) -> T
 }
 
 // A note-on with a velocity above 0: the generators after it, and which one it took.
-pub fn note_on(generators: Generators, table: Table, polyphony: u8, rhythm: bool, channel: u8, key: u8) -> Allocated
+pub fn note_on(
+    generators: Generators,
+    table: Table,
+    polyphony: u8,
+    rhythm: bool,
+    channel: u8,
+    key: u8,
+) -> Allocated
     ensures { λ r. ⌜ r ≡ noteOn generators table polyphony rhythm channel key ⌝ }
 {
     if shares::masks(table, polyphony, channel) {

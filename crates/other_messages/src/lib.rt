@@ -2,9 +2,9 @@
 // mask is looked at here. Assumes nothing.
 ghost use mathlib.Core.Path.{_≡_};
 ghost use Rattle.other_messages.specs.OtherMessages.{notesAfter, playNoteOff, playControl};
-use releases::Change;
 use generators::Generators;
 use instrument::Instrument;
+use releases::Change;
 use silence::Leaving;
 
 // What a controller does to notes: the pedal, 120, 121 and 123.

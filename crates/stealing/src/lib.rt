@@ -26,7 +26,8 @@ fn is_over(generators: Generators, entry: Entry, before: u8, polyphony: u8, chan
     if polyphony < entry.value {
         return false;
     }
-    let count = candidates::busy_count(generators, entry.channel) + loops::one(entry.channel == channel);
+    let count = candidates::busy_count(generators, entry.channel)
+        + loops::one(entry.channel == channel);
     loops::less(entry.value, before) < count
 }
 

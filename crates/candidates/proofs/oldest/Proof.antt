@@ -29,7 +29,7 @@ first-marked-requires c κs = search needs
 returns-2 : tie.Need-returns-2
 unfolding oldest
 returns-2 c =
-    let b = c .before .before .before .before .before .before in
+    let b = c .before .before .before .before .before .before .before in
     let s = b .args .generators in
     c .first-marked .ensures
     ∙ ap found (found-marked (b .args .want) (s .state) (s .channel) (s .key) (state-64 s (b .good .0)) _ (c .before .marks .ensures) (oldestFirst (s .ages)))

@@ -1,9 +1,8 @@
 -- `releases::states_after` meets its contract. Invariant: the first i states are those of the rule, the others as they were.
 -- Assumes nothing.
-use Prim.Native.Nat.{ℕ, _≤_, _<_, _-_}
-use mathlib.Core.Path.{_≡_, refl, sym, ap, _∙_}
+use Prim.Native.Nat.{ℕ, _≤_, _-_}
+use mathlib.Core.Path.{_≡_, refl}
 use native.Mathlib.Omega.{arith}
-use mathlib.Core.Bool.{Bool}
 use mathlib.Core.List.{List, _++_}
 use lib.ListN.{length, drop, getD}
 use Rattle.loops.specs.Cases.{if_then_else_}
@@ -31,7 +30,7 @@ state-after-requires c κs = search needs
 
 loop-holds : tie.Need-loop-holds Inv-loop μ-loop
 unfolding upTo
-loop-holds c = (omega arith, c .good .0 .1 .0 .1, refl)
+loop-holds c = (omega arith, c .before .good .0 .1 .0 .1, refl)
 
 array-read-changes : tie.Need-array-read-changes Inv-loop μ-loop
 array-read-changes c = search needs
@@ -64,7 +63,7 @@ loop-again : tie.Need-loop-again Inv-loop μ-loop
 loop-again c =
     let l = c .before .before .before .loop in
     let b = c .before .before .before .before in
-    let a = b .before .before .args in
+    let a = b .before .args in
     let x = rw (c .before .changes .ensures, b .state-after .ensures) at (c .if-else .ensures) in
     (omega arith, l .inv .1, fill-next (rule (a .change) (a .t1) (a .t2) (a .t3)) 0 (a .t1) (l .out) (l .i) _ (omega arith) (l .inv .2) x)
 
