@@ -4,8 +4,9 @@ ghost use mathlib.Core.Path.{_≡_};
 ghost use lib.ListN.{getD};
 ghost use Rattle.loops.specs.Cases.{if_then_else_};
 ghost use Rattle.loops.specs.Passes.{upTo};
-ghost use Rattle.generators.specs.Generators.{generator};
+ghost use Rattle.generators.specs.Generators.{Generator, generator};
 ghost use Rattle.releases.specs.Releases.{changes, keyUp, stateAfter, changed};
+ghost use Rattle.releases.specs.Selection.{isOneOf, selects};
 use generators::Generators;
 
 // What happens to the notes of a channel.
@@ -22,16 +23,54 @@ pub enum Change {
     PedalUp(u8),
 }
 
-// Whether a change means a generator with this state, channel and key.
-fn changes(change: Change, state: u8, channel: u8, key: u8) -> bool
-    ensures { λ r. ⌜ r ≡ changes change (generator state channel key) ⌝ }
+// One key, or every key.
+enum Keys {
+    One(u8),
+    Every,
+}
+
+// The generators that a change means, by plain numbers, so that a pass asks them of many at once: held ones, sustained ones or both, of a channel and of its keys.
+struct Selection {
+    held: bool,
+    sustained: bool,
+    channel: u8,
+    keys: Keys,
+}
+
+fn select(change: Change) -> Selection
+    ensures { λ r. ⌜ ((x : Generator) → selects r x ≡ changes change x) ⌝ }
 {
     match change {
-        Change::ReleaseNote(c, k) => (generators::is_busy(state) & (channel == c)) & (key == k),
-        Change::ReleaseChannel(c) => generators::is_busy(state) & (channel == c),
-        Change::NoteOff(_, c, k) => ((state == generators::HELD) & (channel == c)) & (key == k),
-        Change::AllNotesOff(_, c) => (state == generators::HELD) & (channel == c),
-        Change::PedalUp(c) => (state == generators::SUSTAINED) & (channel == c),
+        Change::ReleaseNote(c, k) => Selection {
+            held: true,
+            sustained: true,
+            channel: c,
+            keys: Keys::One(k),
+        },
+        Change::ReleaseChannel(c) => Selection {
+            held: true,
+            sustained: true,
+            channel: c,
+            keys: Keys::Every,
+        },
+        Change::NoteOff(_, c, k) => Selection {
+            held: true,
+            sustained: false,
+            channel: c,
+            keys: Keys::One(k),
+        },
+        Change::AllNotesOff(_, c) => Selection {
+            held: true,
+            sustained: false,
+            channel: c,
+            keys: Keys::Every,
+        },
+        Change::PedalUp(c) => Selection {
+            held: false,
+            sustained: true,
+            channel: c,
+            keys: Keys::Every,
+        },
     }
 }
 
@@ -58,15 +97,38 @@ fn state_after(change: Change) -> u8
     }
 }
 
-// The states after a change.
-fn states_after(state: [u8; 64], channel: [u8; 64], keys: [u8; 64], change: Change) -> [u8; 64]
-    ensures { λ r. ⌜ r ≡ upTo (λ g. if changes change (generator (getD state g 0) (getD channel g 0) (getD keys g 0)) then stateAfter change else getD state g 0) 64 ⌝ }
+fn is_one_of(keys: Keys, key: u8) -> bool
+    ensures { λ r. ⌜ r ≡ isOneOf keys key ⌝ }
 {
-    let to = state_after(change);
+    match keys {
+        Keys::One(k) => key == k,
+        Keys::Every => true,
+    }
+}
+
+fn selects(w: Selection, state: u8, channel: u8, key: u8) -> bool
+    ensures { λ r. ⌜ r ≡ selects w (generator state channel key) ⌝ }
+{
+    let keys = w.keys;
+    let is_state = (w.held & (state == generators::HELD))
+        | (w.sustained & (state == generators::SUSTAINED));
+    (is_state & (channel == w.channel)) & is_one_of(keys, key)
+}
+
+// The states after the selected generators went to another.
+fn states_after(
+    state: [u8; 64],
+    channel: [u8; 64],
+    keys: [u8; 64],
+    w: Selection,
+    to: u8,
+) -> [u8; 64]
+    ensures { λ r. ⌜ r ≡ upTo (λ g. if selects w (generator (getD state g 0) (getD channel g 0) (getD keys g 0)) then to else getD state g 0) 64 ⌝ }
+{
     let mut out = state;
     let mut i: usize = 0;
     while i < 64 {
-        out[i] = loops::if_else(changes(change, state[i], channel[i], keys[i]), to, state[i]);
+        out[i] = loops::if_else(selects(w, state[i], channel[i], keys[i]), to, state[i]);
         i += 1;
     }
     out
@@ -79,7 +141,7 @@ pub fn apply(generators: Generators, change: Change) -> Generators
     let state = generators.state;
     let channel = generators.channel;
     let keys = generators.key;
-    let after = states_after(state, channel, keys, change);
+    let after = states_after(state, channel, keys, select(change), state_after(change));
     let mut next = generators;
     next.state = after;
     next

@@ -1,48 +1,46 @@
 -- `releases::states_after` meets its contract. Invariant: the first i states are those of the rule, the others as they were.
 -- Assumes nothing.
 use Prim.Native.Nat.{ℕ, _≤_, _-_}
-use mathlib.Core.Path.{_≡_, refl}
+use mathlib.Core.Path.{_≡_, refl, ap, _∙_}
 use native.Mathlib.Omega.{arith}
+use mathlib.Core.Bool.{Bool}
 use mathlib.Core.List.{List, _++_}
 use lib.ListN.{length, drop, getD}
 use Rattle.loops.specs.Cases.{if_then_else_}
 use Rattle.loops.specs.Passes.{upTo}
 use Rattle.loops.proofs.Fill.{fill-next, fill-end}
-use Rattle.releases.specs.declared.Change.{Change}
+use Rattle.releases.specs.declared.Selection.{Selection}
 use Rattle.generators.specs.Generators.{generator}
-use Rattle.releases.specs.Releases.{changes, stateAfter}
+use Rattle.releases.specs.Selection.{selects}
 use borrow.Author.Needs.{needs}
 use Rattle.releases.proofs.states_after.Statement.{statement}
 use Rattle.releases.proofs.states_after.Tie as tie
 
 -- the state of generator g afterwards
-abbrev rule : Change → List ℕ → List ℕ → List ℕ → ℕ → ℕ
-rule change state channel keys g = if changes change (generator (getD state g 0) (getD channel g 0) (getD keys g 0)) then stateAfter change else getD state g 0
+abbrev rule : Selection → ℕ → List ℕ → List ℕ → List ℕ → ℕ → ℕ
+rule w to state channel keys g = if selects w (generator (getD state g 0) (getD channel g 0) (getD keys g 0)) then to else getD state g 0
 
 abbrev Inv-loop : tie.InvT-loop
-Inv-loop change state channel keys to out₀ i₀ out i = (i ≤ 64) × (length out₀ ≡ 64) × (out ≡ upTo (rule change state channel keys) i ++ drop i out₀)
+Inv-loop w to state channel keys out₀ i₀ out i = (i ≤ 64) × (length out₀ ≡ 64) × (out ≡ upTo (rule w to state channel keys) i ++ drop i out₀)
 
 abbrev μ-loop : tie.MeasureT-loop
-μ-loop change state channel keys to out₀ i₀ out i = 64 - i
-
-state-after-requires : tie.Need-state-after-requires Inv-loop μ-loop
-state-after-requires c κs = search needs
+μ-loop w to state channel keys out₀ i₀ out i = 64 - i
 
 loop-holds : tie.Need-loop-holds Inv-loop μ-loop
 unfolding upTo
-loop-holds c = (omega arith, c .before .good .0 .1 .0 .1, refl)
+loop-holds c = (omega arith, c .good .0 .1 .0 .1, refl)
 
-array-read-changes : tie.Need-array-read-changes Inv-loop μ-loop
-array-read-changes c = search needs
+array-read-selects : tie.Need-array-read-selects Inv-loop μ-loop
+array-read-selects c = search needs
 
-array-read-changes-2 : tie.Need-array-read-changes-2 Inv-loop μ-loop
-array-read-changes-2 c = search needs
+array-read-selects-2 : tie.Need-array-read-selects-2 Inv-loop μ-loop
+array-read-selects-2 c = search needs
 
-array-read-changes-3 : tie.Need-array-read-changes-3 Inv-loop μ-loop
-array-read-changes-3 c = search needs
+array-read-selects-3 : tie.Need-array-read-selects-3 Inv-loop μ-loop
+array-read-selects-3 c = search needs
 
-changes-requires : tie.Need-changes-requires Inv-loop μ-loop
-changes-requires c κs = search needs
+selects-requires : tie.Need-selects-requires Inv-loop μ-loop
+selects-requires c κs = search needs
 
 array-read-if-else : tie.Need-array-read-if-else Inv-loop μ-loop
 array-read-if-else c = search needs
@@ -62,10 +60,9 @@ loop-less c = search needs
 loop-again : tie.Need-loop-again Inv-loop μ-loop
 loop-again c =
     let l = c .before .before .before .loop in
-    let b = c .before .before .before .before in
-    let a = b .before .args in
-    let x = rw (c .before .changes .ensures, b .state-after .ensures) at (c .if-else .ensures) in
-    (omega arith, l .inv .1, fill-next (rule (a .change) (a .t1) (a .t2) (a .t3)) 0 (a .t1) (l .out) (l .i) _ (omega arith) (l .inv .2) x)
+    let a = c .before .before .before .before .args in
+    let x = c .if-else .ensures ∙ ap (λ (b : Bool). if b then a .to else getD (a .t1) (l .i) 0) (c .before .selects .ensures) in
+    (omega arith, l .inv .1, fill-next (rule (a .w) (a .to) (a .t1) (a .t2) (a .t3)) 0 (a .t1) (l .out) (l .i) _ (omega arith) (l .inv .2) x)
 
 returns : tie.Need-returns Inv-loop μ-loop
 returns c = let l = c .before .loop in fill-end _ _ _ _ 64 (omega arith) (omega arith) (l .inv .2)
@@ -76,12 +73,11 @@ states-after-spec =
     (tie.spec
     Inv-loop
     μ-loop
-    state-after-requires
     loop-holds
-    array-read-changes
-    array-read-changes-2
-    array-read-changes-3
-    changes-requires
+    array-read-selects
+    array-read-selects-2
+    array-read-selects-3
+    selects-requires
     array-read-if-else
     if-else-requires
     array-write-out
