@@ -6,29 +6,28 @@ use mathlib.Core.Bool.{Bool, true, false, not, _||_}
 use mathlib.Core.List.{List, [], _∷_, _++_}
 use Prim.Native.Nat.{ℕ, _+_, _≤_, _<_}
 use native.Mathlib.Omega.{arith}
-use borrow.Author.Tests.{lt-ltb, ltb-true, ltb-false, eqb-true, eqb-false, eq-eqb, ne-eqb}
-use lib.Dec.{eqb, ltb}
-use lib.ListN.{length, getD, set, length-append, length-set, List·getD-eq-default}
+use borrow.Author.Tests.{lt-ltb, eqb-true, eqb-false, eq-eqb, ne-eqb}
+use lib.Dec.{eqb}
+use lib.ListN.{length, set, length-append, length-set}
 use lib.Seq.{getD-set-same, getD-set-other}
 use Rattle.loops.specs.Cases.{if_then_else_, bit}
-use Rattle.loops.specs.Passes.{upTo, total, filterBy, count, padded}
-use Rattle.loops.proofs.Fill.{at-upTo, length-upTo}
+use Rattle.loops.specs.Passes.{total, filterBy, count, padded}
+use Rattle.loops.proofs.Fill.{length-upTo}
 use Rattle.loops.proofs.Tests.{and-left}
 use Rattle.loops.proofs.Totals.{total-same, total-bits}
 use Rattle.loops.proofs.Search.{filter-append, filter-filter, filter-same, filter-length}
 use Rattle.loops.proofs.Occurs.{occurs, occurs-filter, occurs-snoc, length-total, total-hole}
-use Rattle.ages.specs.declared.Ages.{Ages}
 use Rattle.ages.specs.Ages.{oldestFirst, agesOf, newest, otherThan}
 use Rattle.loops.proofs.Padded.{blank}
 use Rattle.ages.proofs.Orders.{order-of}
 use Rattle.generators.specs.declared.Generators.{Generators}
-use Rattle.generators.specs.Generators.{Generator, generator, at, isSounding, isHeld, isSustained, isOn, isBusyOn, assigned, silent}
+use Rattle.generators.specs.Generators.{Generator, generator, at, isSounding, isHeld, isSustained, isOn, assigned, silent}
 use Rattle.releases.specs.declared.Change.{Change}
 use Rattle.releases.specs.declared.Change.the-variants.{ReleaseNote, ReleaseChannel, NoteOff, AllNotesOff, PedalUp}
 use Rattle.releases.specs.Releases.{changes, keyUp, stateAfter, changed}
 use Rattle.silence.specs.declared.Leaving.{Leaving}
-use Rattle.silence.specs.Silence.{leaves, goes, silenced}
-use Rattle.age_law.specs.AgeLaw.{Act, assign, change, silence, done, after, byLast, ByAssignment}
+use Rattle.silence.specs.Silence.{goes, silenced}
+use Rattle.age_law.specs.AgeLaw.{Act, assign, change, silence, after, byLast, ByAssignment}
 use Rattle.age_law.proofs.At.{Sized, beyond, restated, restated-at, silenced-at}
 
 abbrev sounds : Generators → ℕ → Bool

@@ -1,7 +1,7 @@
 -- Each generator after an act, by its number: beyond the 64 places all are idle, with channel 0 and key 0, before and after.
 -- Assumes nothing.
 use mathlib.Core.Path.{_≡_, refl, sym, ap, _∙_}
-use mathlib.Core.Bool.{Bool, true, false, not, _&&_, _||_}
+use mathlib.Core.Bool.{Bool, true, false}
 use Prim.Native.Nat.{ℕ, _≤_, _<_}
 use native.Mathlib.Omega.{arith}
 use borrow.Author.Tests.{lt-ltb, ltb-true, ltb-false, eqb-true, eqb-false}
@@ -12,10 +12,10 @@ use Rattle.loops.specs.Cases.{if_then_else_}
 use Rattle.loops.specs.Passes.{upTo}
 use Rattle.loops.proofs.Fill.{at-upTo, length-upTo}
 use Rattle.generators.specs.declared.Generators.{Generators}
-use Rattle.generators.specs.Generators.{Generator, generator, at, isIdle, isBusy, isSounding, assigned}
+use Rattle.generators.specs.Generators.{Generator, generator, at, isIdle, isBusy, assigned}
 use Rattle.releases.specs.Releases.{withStates}
 use Rattle.silence.specs.declared.Leaving.{Leaving}
-use Rattle.silence.specs.Silence.{leaves, isAmong, goes, silenced}
+use Rattle.silence.specs.Silence.{leaves, goes, silenced}
 
 -- the arrays have 64 places
 pub record Sized (s : Generators) : Type 0 where

@@ -9,7 +9,7 @@ use borrow.Author.Tests.{ltb-true, ltb-false, eqb-true, eqb-false}
 use lib.Dec.{eqb, ltb}
 use lib.ListN.{length, getD, set, take, replicate, length-append}
 use lib.Seq.{take-all, take-append-le, length-take-le, set-set, set-out, getD-set-same, getD-set-other}
-use Rattle.loops.specs.Cases.{if_then_else_, bit, atMost}
+use Rattle.loops.specs.Cases.{bit, atMost}
 use Rattle.loops.specs.Passes.{filterBy, padded}
 use Rattle.loops.proofs.Padded.{padded-push, padded-blank, length-padded, padded-take, padded-full, at-most-le, take-at-most, length-at-most, blank}
 use Rattle.loops.proofs.Marks.{room}

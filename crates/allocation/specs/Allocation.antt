@@ -12,11 +12,9 @@ use Rattle.silence.specs.declared.Leaving.the-variants.{Group}
 use Rattle.silence.specs.Silence.{silenced}
 use Rattle.candidates.specs.declared.Found.{Found}
 use Rattle.candidates.specs.declared.Found.the-variants.{At, Nothing}
-use Rattle.candidates.specs.declared.Want.the-variants.{Releasing, BusyOn}
+use Rattle.candidates.specs.declared.Want.the-variants.{Releasing}
 use Rattle.candidates.specs.Candidates.{lowestIdle, oldest}
-use Rattle.stealing.specs.declared.Loser.{Loser}
-use Rattle.stealing.specs.declared.Loser.the-variants.{Channel, Nobody}
-use Rattle.stealing.specs.Stealing.{stealFrom}
+use Rattle.stealing.specs.Stealing.{victim}
 use Rattle.allocation.specs.declared.Was.{Was}
 use Rattle.allocation.specs.declared.Was.the-variants.{Idle, Release, Stolen}
 use Rattle.allocation.specs.declared.Taken.{Taken}
@@ -33,29 +31,18 @@ isStolen Idle = false
 isStolen Release = false
 isStolen Stolen = true
 
--- step 5: the oldest busy generator of the channel to steal from; "If it has none, number 11"
-abbrev pub stolen : Found → Taken
-stolen (At g) = Took g Stolen
-stolen Nothing = Refused 11
+-- a generator that was found is taken, with what it was; where none was found, the next decides
+abbrev pub orElse : Found → Was → Taken → Taken
+orElse (At g) w t = Took g w
+orElse Nothing w t = t
 
-abbrev pub stealOf : Generators → Loser → Taken
-stealOf s (Channel d) = stolen (oldest (BusyOn d) s)
-stealOf s Nobody = Refused 11
-
-unfoldable pub step5 : Generators → Table → ℕ → ℕ → Taken
-step5 s t p c = stealOf s (stealFrom s t p c)
-
--- step 4: "Take the idle generator of lowest number; else the oldest releasing one"
-abbrev pub orElse5 : Generators → Table → ℕ → ℕ → Found → Taken
-orElse5 s t p c (At g) = Took g Release
-orElse5 s t p c Nothing = step5 s t p c
-
-abbrev pub orElse4 : Generators → Table → ℕ → ℕ → Found → Taken
-orElse4 s t p c (At g) = Took g Idle
-orElse4 s t p c Nothing = orElse5 s t p c (oldest Releasing s)
-
+-- step 4: "Take the idle generator of lowest number; else the oldest releasing one"; else step 5: one is stolen; "If it has none, number 11"
 unfoldable pub choice : Generators → Table → ℕ → ℕ → Taken
-choice s t p c = orElse4 s t p c (lowestIdle s p)
+choice s t p c =
+    orElse (lowestIdle s p) Idle
+    (orElse (oldest Releasing s) Release
+    (orElse (victim s t p c) Stolen
+    (Refused 11)))
 
 -- "The note is then held and is the newest"; a refused note-on leaves everything as it was
 abbrev pub allocated : Generators → Generators → ℕ → ℕ → Taken → Allocated

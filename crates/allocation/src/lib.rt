@@ -1,13 +1,12 @@
 // Which generator a note gets (document 01, "Note-on, velocity above 0"): steps 1 to 5 and the assignment, by value, for every value of the generators and
 // of the table. Assumes nothing.
 ghost use mathlib.Core.Path.{_≡_};
-ghost use Rattle.allocation.specs.Allocation.{cleared, stolen, stealOf, step5, orElse5, choice, allocated, noteOn};
-use releases::Change;
+ghost use Rattle.allocation.specs.Allocation.{cleared, choice, noteOn};
 use candidates::Found;
 use candidates::Want;
 use generators::Generators;
+use releases::Change;
 use silence::Leaving;
-use stealing::Loser;
 use table::Table;
 
 // What the generator of a new note was.
@@ -34,58 +33,55 @@ pub struct Allocated {
 }
 
 // Steps 2 and 3: the key's earlier note is released and, on a rhythm channel, other drums of its group fall silent.
-fn clear(s: Generators, rhythm: bool, channel: u8, key: u8) -> Generators
-    ensures { λ r. ⌜ r ≡ cleared rhythm channel key s ⌝ }
+fn clear(generators: Generators, rhythm: bool, channel: u8, key: u8) -> Generators
+    ensures { λ r. ⌜ r ≡ cleared rhythm channel key generators ⌝ }
 {
-    let released = releases::apply(s, Change::ReleaseNote(channel, key));
+    let released = releases::apply(generators, Change::ReleaseNote(channel, key));
     if rhythm {
         return silence::fall_silent(released, Leaving::Group(channel, key));
     }
     released
 }
 
-// Step 5: the oldest busy generator of the channel of lowest priority over its share.
-fn steal(s: Generators, t: Table, p: u8, channel: u8) -> Taken
-    ensures { λ r. ⌜ r ≡ step5 s t p channel ⌝ }
-{
-    let Loser::Channel(d) = stealing::steal_from(s, t, p, channel) else {
-        return Taken::Refused(11);
-    };
-    let Found::At(g) = candidates::oldest(s, Want::BusyOn(d)) else {
-        return Taken::Refused(11);
-    };
-    Taken::Took(g, Was::Stolen)
-}
-
 // Steps 4 and 5: idle before releasing before stolen.
-fn choose(s: Generators, t: Table, p: u8, channel: u8) -> Taken
-    ensures { λ r. ⌜ r ≡ choice s t p channel ⌝ }
+fn choose(generators: Generators, table: Table, polyphony: u8, channel: u8) -> Taken
+    ensures { λ r. ⌜ r ≡ choice generators table polyphony channel ⌝ }
 {
-    if let Found::At(g) = candidates::lowest_idle(s, p) {
+    if let Found::At(g) = candidates::lowest_idle(generators, polyphony) {
         return Taken::Took(g, Was::Idle);
     }
-    if let Found::At(g) = candidates::oldest(s, Want::Releasing) {
+    if let Found::At(g) = candidates::oldest(generators, Want::Releasing) {
         return Taken::Took(g, Was::Release);
     }
-    steal(s, t, p, channel)
+    if let Found::At(g) = stealing::victim(generators, table, polyphony, channel) {
+        return Taken::Took(g, Was::Stolen);
+    }
+    Taken::Refused(11)
 }
 
 // A note-on with a velocity above 0: the generators after it, and which one it took.
-pub fn note_on(s: Generators, t: Table, p: u8, rhythm: bool, channel: u8, key: u8) -> Allocated
-    ensures { λ r. ⌜ r ≡ noteOn s t p rhythm channel key ⌝ }
+pub fn note_on(
+    generators: Generators,
+    table: Table,
+    polyphony: u8,
+    rhythm: bool,
+    channel: u8,
+    key: u8,
+) -> Allocated
+    ensures { λ r. ⌜ r ≡ noteOn generators table polyphony rhythm channel key ⌝ }
 {
-    if shares::masks(t, p, channel) {
+    if shares::masks(table, polyphony, channel) {
         return Allocated {
             taken: Taken::Refused(10),
-            generators: s,
+            generators: generators,
         };
     }
-    let rest = clear(s, rhythm, channel, key);
-    let taken = choose(rest, t, p, channel);
+    let rest = clear(generators, rhythm, channel, key);
+    let taken = choose(rest, table, polyphony, channel);
     let Taken::Took(g, _) = taken else {
         return Allocated {
             taken: taken,
-            generators: s,
+            generators: generators,
         };
     };
     Allocated {

@@ -35,14 +35,14 @@ use Rattle.releases.specs.declared.Change.the-variants.{NoteOff}
 use Rattle.releases.specs.Releases.{changed}
 use Rattle.candidates.specs.declared.Found.{Found}
 use Rattle.candidates.specs.declared.Found.the-variants as found
-use Rattle.candidates.specs.declared.Want.the-variants.{BusyOn, Releasing}
+use Rattle.candidates.specs.declared.Want.the-variants.{Releasing}
 use Rattle.candidates.specs.Candidates.{lowestIdle, oldest}
-use Rattle.stealing.specs.declared.Loser.{Loser}
-use Rattle.stealing.specs.declared.Loser.the-variants as loser
-use Rattle.stealing.specs.Stealing.{stealFrom}
+use Rattle.stealing.specs.Stealing.{victim}
+use Rattle.allocation.specs.declared.Was.{Was}
+use Rattle.allocation.specs.declared.Was.the-variants.{Idle, Release, Stolen}
 use Rattle.allocation.specs.declared.Taken.{Taken}
 use Rattle.allocation.specs.declared.Taken.the-variants as took
-use Rattle.allocation.specs.Allocation.{cleared, stolen, stealOf, step5, orElse5, orElse4, choice, allocated, noteOn}
+use Rattle.allocation.specs.Allocation.{cleared, orElse, choice, allocated, noteOn}
 use Rattle.silence.specs.declared.Leaving.the-variants.{One}
 use Rattle.silence.specs.Silence.{silenced}
 use Rattle.instrument.specs.declared.Instrument.{Instrument}
@@ -113,25 +113,17 @@ abbrev Few : Option ℕ → Type 0
 Few none = Unit {0}
 Few (some n) = n ≤ 11
 
-few-stolen : (f : Found) (c k : ℕ) → Few (numberOf (replyOf (stolen f) c k))
-few-stolen (found.At g) c k = tt
-few-stolen found.Nothing c k = omega arith
-
-few-lost : (s : Generators) (l : Loser) (c k : ℕ) → Few (numberOf (replyOf (stealOf s l) c k))
-few-lost s (loser.Channel d) c k = few-stolen (oldest (BusyOn d) s) c k
-few-lost s loser.Nobody c k = omega arith
+few-else : (f : Found) (w : Was) (t : Taken) (c k : ℕ) → Few (numberOf (replyOf t c k)) → Few (numberOf (replyOf (orElse f w t) c k))
+few-else (found.At g) w t c k h = tt
+few-else found.Nothing w t c k h = h
 
 few-choice : (s : Generators) (t : Table) (p c d k : ℕ) → Few (numberOf (replyOf (choice s t p c) d k))
-unfolding choice step5
-few-choice s t p c d k = four (lowestIdle s p)
-  where
-    five : (f : Found) → Few (numberOf (replyOf (orElse5 s t p c f) d k))
-    five (found.At g) = tt
-    five found.Nothing = few-lost s (stealFrom s t p c) d k
-
-    four : (f : Found) → Few (numberOf (replyOf (orElse4 s t p c f) d k))
-    four (found.At g) = tt
-    four found.Nothing = five (oldest Releasing s)
+unfolding choice
+few-choice s t p c d k =
+    let theft : Taken = orElse (victim s t p c) Stolen (took.Refused 11) in
+    few-else (lowestIdle s p) Idle (orElse (oldest Releasing s) Release theft) d k
+    (few-else (oldest Releasing s) Release theft d k
+    (few-else (victim s t p c) Stolen (took.Refused 11) d k (omega arith)))
 
 few-allocated : (s r : Generators) (c k : ℕ) (t : Taken) → Few (numberOf (replyOf t c k)) → Few (numberOf (replyOf (allocated s r c k t .taken) c k))
 few-allocated s r c k (took.Took g w) h = tt

@@ -1,13 +1,12 @@
 -- The search for an idle generator: among the numbers 0, 1, .. n - 1 the element at a place is the place.
 -- Assumes nothing.
-use mathlib.Core.Path.{_≡_, sym, ap, _∙_}
+use mathlib.Core.Path.{_≡_}
 use mathlib.Core.Bool.{Bool, true, false}
 use mathlib.Core.List.{List}
 use mathlib.Core.Option.{Option, some, none}
 use Prim.Native.Nat.{ℕ, _+_, _≤_, _<_}
 use native.Mathlib.Omega.{arith}
-use lib.Dec.{eqb}
-use lib.ListN.{length, drop, getD}
+use lib.ListN.{drop}
 use Rattle.loops.specs.Passes.{upTo, firstOf}
 use Rattle.loops.proofs.Fill.{length-upTo, at-upTo}
 use Rattle.loops.proofs.Search.{first-yes, first-no, first-end}

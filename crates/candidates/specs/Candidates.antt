@@ -1,14 +1,12 @@
 -- Document 01, "Note-on", steps 4 and 5: the generator to take, and the counting of a channel's notes.
 use Prim.Native.Nat.{ℕ}
-use mathlib.Core.Bool.{Bool, true, false}
-use mathlib.Core.List.{List}
+use mathlib.Core.Bool.{Bool}
 use mathlib.Core.Option.{Option, some, none}
-use lib.ListN.{getD}
 use Rattle.loops.specs.Cases.{bit, atMost}
 use Rattle.loops.specs.Passes.{upTo, total, firstOf}
 use Rattle.ages.specs.Ages.{oldestFirst}
 use Rattle.generators.specs.declared.Generators.{Generators}
-use Rattle.generators.specs.Generators.{Generator, generator, at, isIdle, isReleasing, isBusyOn}
+use Rattle.generators.specs.Generators.{Generator, at, isIdle, isReleasing, isBusyOn}
 use Rattle.candidates.specs.declared.Want.{Want}
 use Rattle.candidates.specs.declared.Want.the-variants.{Releasing, BusyOn}
 use Rattle.candidates.specs.declared.Found.{Found}
@@ -26,15 +24,6 @@ lowestIdle s p = found (firstOf (λ g. isIdle (at s g)) (upTo (λ g. g) (atMost 
 unfoldable pub wanted : Want → Generator → Bool
 wanted Releasing x = isReleasing x
 wanted (BusyOn c) x = isBusyOn c x
-
--- the same in plain numbers: busy on channel c, or releasing
-abbrev pub sought : Bool → ℕ → Generator → Bool
-sought true c x = isBusyOn c x
-sought false c x = isReleasing x
-
--- of generator g, by the numbers in the record
-abbrev pub soughtAt : Bool → ℕ → List ℕ → List ℕ → ℕ → Bool
-soughtAt busy c state channel g = sought busy c (generator (getD state g 0) (getD channel g 0) 0)
 
 unfoldable pub oldest : Want → Generators → Found
 oldest w s = found (firstOf (λ g. wanted w (at s g)) (oldestFirst (s .ages)))

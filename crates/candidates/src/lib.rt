@@ -8,9 +8,8 @@ ghost use lib.ListN.{getD};
 ghost use Rattle.loops.specs.Cases.{bit};
 ghost use Rattle.loops.specs.Passes.{total, firstOf, marksOf};
 ghost use Rattle.ages.specs.Ages.{oldestFirst};
-ghost use Rattle.generators.specs.Generators.{generator, at};
-ghost use Rattle.candidates.specs.declared.Want.the-variants.{Releasing};
-ghost use Rattle.candidates.specs.Candidates.{found, lowestIdle, sought, soughtAt, oldest, busyCount};
+ghost use Rattle.generators.specs.Generators.{generator};
+ghost use Rattle.candidates.specs.Candidates.{found, lowestIdle, wanted, oldest, busyCount};
 use ages::Ages;
 use generators::Generators;
 
@@ -30,34 +29,36 @@ pub enum Found {
     Nothing,
 }
 
-// Whether a generator is sought: one that is busy on channel c, or a releasing one. In plain numbers, so that a pass asks it of many generators at once.
-fn is_sought(busy: bool, c: u8, state: u8, channel: u8) -> bool
-    ensures { λ r. ⌜ r ≡ sought busy c (generator state channel 0) ⌝ }
+// Whether a generator with this state and channel is wanted.
+fn is_wanted(want: Want, state: u8, channel: u8) -> bool
+    ensures { λ r. ⌜ r ≡ wanted want (generator state channel 0) ⌝ }
 {
-    (busy & (generators::is_busy(state) & (channel == c)))
-        | (!busy & (state == generators::RELEASING))
+    match want {
+        Want::Releasing => state == generators::RELEASING,
+        Want::BusyOn(c) => generators::is_busy(state) & (channel == c),
+    }
 }
 
-fn how_many(state: [u8; 64], channel: [u8; 64], busy: bool, c: u8) -> u8
-    ensures { λ r. ⌜ (r ≡ total (λ g. bit (soughtAt busy c state channel g)) 64) × (r ≤ 64) ⌝ }
+fn how_many(state: [u8; 64], channel: [u8; 64], want: Want) -> u8
+    ensures { λ r. ⌜ (r ≡ total (λ g. bit (wanted want (generator (getD state g 0) (getD channel g 0) 0))) 64) × (r ≤ 64) ⌝ }
 {
     let mut n: u8 = 0;
     let mut i: usize = 0;
     while i < 64 {
-        n = n + loops::one(is_sought(busy, c, state[i], channel[i]));
+        n = n + loops::one(is_wanted(want, state[i], channel[i]));
         i += 1;
     }
     n
 }
 
-// A mark for each generator that is sought.
-fn marks(state: [u8; 64], channel: [u8; 64], busy: bool, c: u8) -> [u8; 256]
-    ensures { λ r. ⌜ r ≡ marksOf (soughtAt busy c state channel) ⌝ }
+// A mark for each generator that is wanted.
+fn marks(state: [u8; 64], channel: [u8; 64], want: Want) -> [u8; 256]
+    ensures { λ r. ⌜ r ≡ marksOf (λ g. wanted want (generator (getD state g 0) (getD channel g 0) 0)) ⌝ }
 {
     let mut out = [0u8; 256];
     let mut i: usize = 0;
     while i < 64 {
-        out[i] = loops::one(is_sought(busy, c, state[i], channel[i]));
+        out[i] = loops::one(is_wanted(want, state[i], channel[i]));
         i += 1;
     }
     out
@@ -81,33 +82,12 @@ fn first_marked(order: Ages, marks: [u8; 256]) -> Found
     Found::Nothing
 }
 
-fn oldest_sought(s: Generators, busy: bool, c: u8) -> Found
-    ensures { λ r. ⌜ r ≡ found (firstOf (λ g. sought busy c (at s g)) (oldestFirst (s .ages))) ⌝ }
+// Step 4 of a note-on: the idle generator of lowest number among the first P.
+pub fn lowest_idle(generators: Generators, polyphony: u8) -> Found
+    ensures { λ r. ⌜ r ≡ lowestIdle generators polyphony ⌝ }
 {
-    let state = s.state;
-    let channel = s.channel;
-    let order = s.ages;
-    first_marked(order, marks(state, channel, busy, c))
-}
-
-// Mostly there is none: the order of age is gone through only where there is one.
-fn oldest_releasing(s: Generators) -> Found
-    ensures { λ r. ⌜ r ≡ oldest Releasing s ⌝ }
-{
-    let state = s.state;
-    let channel = s.channel;
-    if how_many(state, channel, false, 0) == 0 {
-        return Found::Nothing;
-    }
-    oldest_sought(s, false, 0)
-}
-
-// Step 4 of a note-on: the idle generator of lowest number among the first p.
-pub fn lowest_idle(s: Generators, p: u8) -> Found
-    ensures { λ r. ⌜ r ≡ lowestIdle s p ⌝ }
-{
-    let state = s.state;
-    let n = loops::at_most(64, p);
+    let state = generators.state;
+    let n = loops::at_most(64, polyphony);
     let mut g: u8 = 0;
     while g < n {
         let i = g as usize;
@@ -119,21 +99,24 @@ pub fn lowest_idle(s: Generators, p: u8) -> Found
     Found::Nothing
 }
 
-// The oldest generator of those wanted.
-pub fn oldest(s: Generators, w: Want) -> Found
-    ensures { λ r. ⌜ r ≡ oldest w s ⌝ }
+// The oldest generator of those wanted. Mostly there is none: the order of age is gone through only where there is one.
+pub fn oldest(generators: Generators, want: Want) -> Found
+    ensures { λ r. ⌜ r ≡ oldest want generators ⌝ }
 {
-    match w {
-        Want::Releasing => oldest_releasing(s),
-        Want::BusyOn(c) => oldest_sought(s, true, c),
+    let state = generators.state;
+    let channel = generators.channel;
+    if how_many(state, channel, want) == 0 {
+        return Found::Nothing;
     }
+    let order = generators.ages;
+    first_marked(order, marks(state, channel, want))
 }
 
 // How many generators are busy on a channel.
-pub fn busy_count(s: Generators, channel: u8) -> u8
-    ensures { λ r. ⌜ (r ≡ busyCount s channel) × (r ≤ 64) ⌝ }
+pub fn busy_count(generators: Generators, channel: u8) -> u8
+    ensures { λ r. ⌜ (r ≡ busyCount generators channel) × (r ≤ 64) ⌝ }
 {
-    let state = s.state;
-    let channels = s.channel;
-    how_many(state, channels, true, channel)
+    let state = generators.state;
+    let channels = generators.channel;
+    how_many(state, channels, Want::BusyOn(channel))
 }

@@ -7,7 +7,6 @@ use mathlib.Core.Option.{Option, some, none}
 use Prim.Native.Nat.{ℕ, _<_}
 use native.Mathlib.Omega.{arith}
 use lib.Dec.{eqb, eqb→eq}
-use lib.ListN.{length}
 use Rattle.loops.specs.Passes.{upTo, firstOf}
 use Rattle.loops.proofs.Fill.{at-upTo, length-upTo}
 use Rattle.loops.proofs.Sweep.{at}

@@ -23,8 +23,8 @@ use Rattle.generators.specs.Generators.{assigned, silent}
 use Rattle.releases.specs.Releases.{changes, stateAfter, changed}
 use Rattle.silence.specs.Silence.{isAmong, leaves, silenced}
 use Rattle.candidates.specs.Candidates.{lowestIdle, wanted, oldest, busyCount}
-use Rattle.stealing.specs.Stealing.{overShare, stealFrom}
-use Rattle.allocation.specs.Allocation.{cleared, step5, choice, noteOn}
+use Rattle.stealing.specs.Stealing.{overShare, stealFrom, victim}
+use Rattle.allocation.specs.Allocation.{cleared, choice, noteOn}
 use Rattle.instrument.specs.Instrument.{fresh, isRhythm}
 use Rattle.masking.specs.Masking.{masked}
 use Rattle.playing.specs.declared.Answer.the-variants.{Done, Number}
@@ -82,7 +82,7 @@ module _ (p v : ℕ) where
       ∙ ap (λ (x : MaskAnswer). mask x ∷ []) (accepted-mip ∙ one-channel t e)
 
 fixed : P1 ++ P2 ++ (mask IsUnmasked ∷ []) ++ (mask IsMasked ∷ []) ++ P5 ++ P6 ++ P7 ++ P8 ++ P9 ≡ printed
-unfolding upTo total filterBy firstOf padded begun stored oneDataByte completed dataByte opened ended statusByte split decode tableOf startTable listed sharesFrom lookup shareOf shareQuery isMip isSystemOn kindOf pairs faulty judged groupOf excludes agesOf newest assigned silent changes stateAfter changed isAmong leaves silenced lowestIdle wanted oldest busyCount overShare stealFrom cleared step5 choice noteOn fresh isRhythm masked playNoteOn played started newTable mipTaken exclusive heard byteTaken generatorQuery P1 P2 P5 P6 P7 P8 P9 printed
+unfolding upTo total filterBy firstOf padded begun stored oneDataByte completed dataByte opened ended statusByte split decode tableOf startTable listed sharesFrom lookup shareOf shareQuery isMip isSystemOn kindOf pairs faulty judged groupOf excludes agesOf newest assigned silent changes stateAfter changed isAmong leaves silenced lowestIdle wanted oldest busyCount overShare stealFrom victim cleared choice noteOn fresh isRhythm masked playNoteOn played started newTable mipTaken exclusive heard byteTaken generatorQuery P1 P2 P5 P6 P7 P8 P9 printed
 fixed = refl
 
 pub paper-examples : (p : ℕ) → 1 ≤ p → p ≤ 64 → computed p ≡ printed

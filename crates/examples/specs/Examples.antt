@@ -3,6 +3,7 @@
 use Prim.Native.Nat.{ℕ, _+_}
 use mathlib.Core.List.{List, [], _∷_, _++_}
 use lib.ListN.{replicate}
+use Rattle.generators.specs.Generators.{held}
 use Rattle.allocation.specs.declared.Was.the-variants.{Idle, Release, Stolen}
 use Rattle.playing.specs.declared.Answer.{Answer}
 use Rattle.playing.specs.declared.Answer.the-variants.{Nothing, Done, Note, NoNote, Number}
@@ -32,7 +33,7 @@ fresh p = started p 0 .device
 -- what an example looks at
 pub data Seen : Type 0 where
   answer : Answer → Seen
-  -- state (1: held), channel and key
+  -- state, channel and key
   generator : GeneratorAnswer → Seen
   mask : MaskAnswer → Seen
   share : ShareAnswer → Seen
@@ -106,10 +107,10 @@ computed p = P1 ++ P2 ++ P3 p ++ P4 p ++ P5 ++ P6 ++ P7 ++ P8 ++ P9
 unfoldable pub printed : List Seen
 printed =
     -- P1: channel 2 loses, whose oldest note, key 60, is on generator 2
-    generator (GeneratorIs 1 2 60)
+    generator (GeneratorIs held 2 60)
     ∷ answer (Note 3 62 2 Stolen)
     -- P2: channel 3 itself loses, whose oldest is on 8
-    ∷ generator (GeneratorIs 1 3 60)
+    ∷ generator (GeneratorIs held 3 60)
     ∷ answer (Note 3 63 8 Stolen)
     -- P3, P4: value P, and P + 1; P5: the shares of values 5, 5
     ∷ mask IsUnmasked
@@ -117,11 +118,11 @@ printed =
     ∷ share (ShareIs 5)
     ∷ share (ShareIs 0)
     -- P6: channel 1 loses; P7: number 11
-    ∷ generator (GeneratorIs 1 1 60)
+    ∷ generator (GeneratorIs held 1 60)
     ∷ answer (Note 10 36 0 Stolen)
     ∷ answer (NoNote 11 1 60)
     -- P8: key 46 is idle, and its generator has 42
-    ∷ generator (GeneratorIs 1 10 46)
+    ∷ generator (GeneratorIs held 10 46)
     ∷ answer (Note 10 42 0 Idle)
     -- P9: 32 bytes of pairs, and 33
     ∷ answer Done

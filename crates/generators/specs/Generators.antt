@@ -2,7 +2,7 @@
 -- others stay idle.
 use Prim.Native.Nat.{ℕ}
 use mathlib.Core.Bool.{Bool, _&&_, _||_, not}
-use mathlib.Core.List.{List, []}
+use mathlib.Core.List.{[]}
 use lib.ListN.{getD, set, replicate}
 use lib.Dec.{eqb, ltb}
 use Rattle.loops.specs.Cases.{if_then_else_}
@@ -11,7 +11,19 @@ use Rattle.generators.specs.declared.Generators.{Generators}
 
 -- ---- one generator
 
--- "A generator is idle, held (key down), sustained (key up, pedal down) or releasing": state 0, 1, 2, 3
+-- "A generator is idle, held (key down), sustained (key up, pedal down) or releasing": the number of each state
+abbrev pub idle : ℕ
+idle = 0
+
+abbrev pub held : ℕ
+held = 1
+
+abbrev pub sustained : ℕ
+sustained = 2
+
+abbrev pub releasing : ℕ
+releasing = 3
+
 pub record Generator : Type 0 where
   pub state : ℕ
   pub channel : ℕ
@@ -21,19 +33,19 @@ abbrev pub generator : ℕ → ℕ → ℕ → Generator
 generator x c k = record { state = x; channel = c; key = k }
 
 abbrev pub at : Generators → ℕ → Generator
-at s g = generator (getD (s .state) g 0) (getD (s .channel) g 0) (getD (s .key) g 0)
+at s g = generator (getD (s .state) g idle) (getD (s .channel) g 0) (getD (s .key) g 0)
 
 abbrev pub isIdle : Generator → Bool
-isIdle x = eqb (x .state) 0
+isIdle x = eqb (x .state) idle
 
 abbrev pub isHeld : Generator → Bool
-isHeld x = eqb (x .state) 1
+isHeld x = eqb (x .state) held
 
 abbrev pub isSustained : Generator → Bool
-isSustained x = eqb (x .state) 2
+isSustained x = eqb (x .state) sustained
 
 abbrev pub isReleasing : Generator → Bool
-isReleasing x = eqb (x .state) 3
+isReleasing x = eqb (x .state) releasing
 
 -- "Held and sustained are busy. All but idle are sounding"
 abbrev pub isBusy : Generator → Bool
@@ -56,7 +68,7 @@ assigned g c k s =
     if ltb g 64
     then
     record {
-      state = set (s .state) g 1;
+      state = set (s .state) g held;
       channel = set (s .channel) g c;
       key = set (s .key) g k;
       ages = newest (s .ages) g;
@@ -65,4 +77,4 @@ assigned g c k s =
 
 -- a fresh record: all are idle
 unfoldable pub silent : Generators
-silent = record { state = replicate 64 0; channel = replicate 64 0; key = replicate 64 0; ages = agesOf [] }
+silent = record { state = replicate 64 idle; channel = replicate 64 0; key = replicate 64 0; ages = agesOf [] }

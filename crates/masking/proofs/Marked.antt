@@ -1,7 +1,7 @@
 -- The mark of a channel says whether it is newly masked; what is no channel has no mark.
 -- Assumes nothing.
 use mathlib.Core.Path.{_≡_, ap}
-use mathlib.Core.Bool.{Bool, false, _&&_, not, and-false}
+use mathlib.Core.Bool.{false, _&&_, not, and-false}
 use mathlib.Core.List.{List}
 use Prim.Native.Nat.{ℕ, _≤_}
 use native.Mathlib.Omega.{arith}

@@ -6,7 +6,7 @@ use Rattle.loops.specs.Passes.{upTo}
 use Rattle.table.specs.declared.Table.{Table}
 use Rattle.shares.specs.Shares.{shareOf, isMasked, isChannel}
 use Rattle.generators.specs.declared.Generators.{Generators}
-use Rattle.generators.specs.Generators.{Generator, at, isBusy}
+use Rattle.generators.specs.Generators.{at, releasing, isBusy}
 use Rattle.releases.specs.Releases.{withStates}
 
 abbrev pub isNewlyMasked : ℕ → Table → Table → ℕ → Bool
@@ -15,4 +15,4 @@ isNewlyMasked p old new c = isChannel c && (not (isMasked (shareOf old p c)) && 
 unfoldable pub masked : ℕ → Table → Table → Generators → Generators
 masked p old new s =
     withStates s
-    (upTo (λ g. if isBusy (at s g) && isNewlyMasked p old new (at s g .channel) then 3 else at s g .state) 64)
+    (upTo (λ g. if isBusy (at s g) && isNewlyMasked p old new (at s g .channel) then releasing else at s g .state) 64)

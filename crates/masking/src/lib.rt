@@ -7,35 +7,35 @@ ghost use lib.Dec.{eqb};
 ghost use lib.ListN.{getD};
 ghost use Rattle.loops.specs.Cases.{if_then_else_};
 ghost use Rattle.loops.specs.Passes.{upTo, marksOf};
-ghost use Rattle.generators.specs.Generators.{generator, isBusy};
+ghost use Rattle.generators.specs.Generators.{generator, releasing, isBusy};
 ghost use Rattle.shares.specs.Shares.{shareOf, isMasked};
 ghost use Rattle.masking.specs.Masking.{isNewlyMasked, masked};
 use generators::Generators;
 use table::Table;
 
-// A mark for each channel that a table leaves unmasked among p generators, in one pass over its entries.
-fn unmasked(t: Table, p: u8) -> [u8; 256]
-    ensures { λ r. ⌜ ((c : ℕ) → c < 256 → eqb (getD r c 0) 0 ≡ isMasked (shareOf t p c)) ⌝ }
+// A mark for each channel that a table leaves unmasked among P generators, in one pass over its entries.
+fn unmasked(table: Table, polyphony: u8) -> [u8; 256]
+    ensures { λ r. ⌜ ((c : ℕ) → c < 256 → eqb (getD r c 0) 0 ≡ isMasked (shareOf table polyphony c)) ⌝ }
 {
-    let entries = t.entries;
-    let n = loops::at_most(16, t.count) as usize;
+    let entries = table.entries;
+    let n = loops::at_most(16, table.count) as usize;
     let mut out = [0u8; 256];
     let mut i: usize = 0;
     while i < n {
         let e = entries[i];
         let mark = loops::place(e.channel);
-        out[mark] = loops::if_else(e.value <= p, 1, out[mark]);
+        out[mark] = loops::if_else(e.value <= polyphony, 1, out[mark]);
         i += 1;
     }
     out
 }
 
 // A mark for each newly masked channel, by its number: it plays by the old table and not by the new one. What is above 16 is no channel and has none.
-fn marks(p: u8, old: Table, new: Table) -> [u8; 256]
-    ensures { λ r. ⌜ r ≡ marksOf (isNewlyMasked p old new) ⌝ }
+fn marks(polyphony: u8, old: Table, new: Table) -> [u8; 256]
+    ensures { λ r. ⌜ r ≡ marksOf (isNewlyMasked polyphony old new) ⌝ }
 {
-    let before = unmasked(old, p);
-    let after = unmasked(new, p);
+    let before = unmasked(old, polyphony);
+    let after = unmasked(new, polyphony);
     let mut out = [0u8; 256];
     let mut i: usize = 0;
     while i < 17 {
@@ -47,7 +47,7 @@ fn marks(p: u8, old: Table, new: Table) -> [u8; 256]
 
 // The states after the busy generators of marked channels were released.
 fn release(state: [u8; 64], channel: [u8; 64], marks: [u8; 256]) -> [u8; 64]
-    ensures { λ r. ⌜ r ≡ upTo (λ g. if isBusy (generator (getD state g 0) 0 0) && not (eqb (getD marks (getD channel g 0) 0) 0) then 3 else getD state g 0) 64 ⌝ }
+    ensures { λ r. ⌜ r ≡ upTo (λ g. if isBusy (generator (getD state g 0) 0 0) && not (eqb (getD marks (getD channel g 0) 0) 0) then releasing else getD state g 0) 64 ⌝ }
 {
     let mut out = state;
     let mut i: usize = 0;
@@ -61,13 +61,13 @@ fn release(state: [u8; 64], channel: [u8; 64], marks: [u8; 256]) -> [u8; 64]
 }
 
 // The generators after the new table replaced the old one.
-pub fn mask(s: Generators, p: u8, old: Table, new: Table) -> Generators
-    ensures { λ r. ⌜ r ≡ masked p old new s ⌝ }
+pub fn mask(generators: Generators, polyphony: u8, old: Table, new: Table) -> Generators
+    ensures { λ r. ⌜ r ≡ masked polyphony old new generators ⌝ }
 {
-    let state = s.state;
-    let channel = s.channel;
-    let after = release(state, channel, marks(p, old, new));
-    let mut next = s;
+    let state = generators.state;
+    let channel = generators.channel;
+    let after = release(state, channel, marks(polyphony, old, new));
+    let mut next = generators;
     next.state = after;
     next
 }

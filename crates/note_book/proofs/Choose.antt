@@ -27,12 +27,12 @@ use Rattle.candidates.specs.declared.Found.the-variants.{At, Nothing}
 use Rattle.candidates.specs.declared.Want.{Want}
 use Rattle.candidates.specs.declared.Want.the-variants.{Releasing, BusyOn}
 use Rattle.candidates.specs.Candidates.{found, lowestIdle, wanted, oldest, busyCount}
-use Rattle.stealing.specs.Stealing.{counted, overShare, toLoser, stealFrom}
+use Rattle.stealing.specs.Stealing.{counted, overShare, toLoser, stealFrom, loses, victim}
 use Rattle.allocation.specs.declared.Was.{Was}
 use Rattle.allocation.specs.declared.Was.the-variants.{Idle, Release, Stolen}
 use Rattle.allocation.specs.declared.Taken.{Taken}
 use Rattle.allocation.specs.declared.Taken.the-variants.{Took, Refused}
-use Rattle.allocation.specs.Allocation.{isStolen, stolen, stealOf, step5, orElse5, orElse4, choice}
+use Rattle.allocation.specs.Allocation.{isStolen, orElse, choice}
 use Rattle.note_book.specs.Demand3.{Slot, empty, note, isNote, isOf, slotOf, notesOn}
 use Rattle.note_book.proofs.Sees.{Sees, Kind, kind, held, sustained, neither}
 use Rattle.note_book.proofs.Playable.{Playable}
@@ -174,9 +174,9 @@ module _ (p : ℕ) (n : ℕ → Slot) (s : Generators) (o : Playable p s) (e : S
 
   module _ (q : List Entry) (c : ℕ) (u : Distinct q) (t : sum q ≤ p) (l : listed c q ≡ true) (h : (g : ℕ) → IsListed q (n g)) where
     -- the chosen channel has a busy generator, or is the new note's own
-    victim : Full p n → (d : ℕ) → IsOver (lookup d q) (withNew p n c d) → Chosen p n s q c (stolen (oldest (BusyOn d) s))
+    take-oldest : Full p n → (d : ℕ) → IsOver (lookup d q) (withNew p n c d) → Chosen p n s q c (orElse (oldest (BusyOn d) s) Stolen (Refused 11))
     unfolding oldest wanted total
-    victim f d v = go (firstOf (λ g. isBusyOn d (at s g)) (oldestFirst (s .ages))) refl (first-law (λ g. isBusyOn d (at s g)) (oldestFirst (s .ages)))
+    take-oldest f d v = go (firstOf (λ g. isBusyOn d (at s g)) (oldestFirst (s .ages))) refl (first-law (λ g. isBusyOn d (at s g)) (oldestFirst (s .ages)))
       where
         own : (m : ℕ) (b : Bool) → eqb d c ≡ b → m ≡ 0 → IsOver (lookup d q) (m + bit b) → d ≡ c
         own m true eb z v = eqb-true d c eb
@@ -186,7 +186,7 @@ module _ (p : ℕ) (n : ℕ → Slot) (s : Generators) (o : Playable p s) (e : S
         unheard z g true i = ap (isOf d) (e g ∙ idle-slot (at s g) i)
         unheard z g false i = ap (isOf d) (e g) ∙ sym (busy-slot d (at s g)) ∙ z g (in-order g i)
 
-        go : (x : Option ℕ) → firstOf (λ g. isBusyOn d (at s g)) (oldestFirst (s .ages)) ≡ x → Picked (λ g. isBusyOn d (at s g)) (oldestFirst (s .ages)) x → Chosen p n s q c (stolen (found x))
+        go : (x : Option ℕ) → firstOf (λ g. isBusyOn d (at s g)) (oldestFirst (s .ages)) ≡ x → Picked (λ g. isBusyOn d (at s g)) (oldestFirst (s .ages)) x → Chosen p n s q c (orElse (found x) Stolen (Refused 11))
         go x r (some-one g b k) =
             let y : isOf d (n g) ≡ true = ap (isOf d) (e g) ∙ sym (busy-slot d (at s g)) ∙ b in
             theft g d f (below g (note-sounds (at s g) (ap isNote (sym (e g)) ∙ of-note d (n g) y))) y v (ap found r)
@@ -195,25 +195,25 @@ module _ (p : ℕ) (n : ℕ → Slot) (s : Generators) (o : Playable p s) (e : S
             let h : d ≡ c = own (notesOn p d n) (eqb d c) refl m v in
             shut f (subst (λ (y : ℕ). IsOver (lookup y q) (withNew p n c y)) h v) (subst (λ (y : ℕ). notesOn p y n ≡ 0) h m)
 
-    rob : Full p n → (x : Option ℕ) → overShare (withNew p n c) q ≡ x → Chosen p n s q c (stealOf s (toLoser x))
+    rob : Full p n → (x : Option ℕ) → overShare (withNew p n c) q ≡ x → Chosen p n s q c (orElse (loses s (toLoser x)) Stolen (Refused 11))
     rob f none r = absurd (pigeons p n q c f h l t r)
-    rob f (some d) r = victim f d (over-some (withNew p n c) q d u r)
+    rob f (some d) r = take-oldest f d (over-some (withNew p n c) q d u r)
 
     pub chosen : (m : Table) → shares p m ≡ q → Chosen p n s q c (choice s m p c)
-    unfolding choice lowestIdle oldest wanted step5 stealFrom
+    unfolding choice lowestIdle oldest wanted victim stealFrom
     chosen m r = rw (at-most-p p (o .few)) (go (firstOf (λ g. isIdle (at s g)) (numbers p)) (first-law (λ g. isIdle (at s g)) (numbers p)))
       where
-        steal : Full p n → Chosen p n s q c (stealOf s (toLoser (overShare (counted s c) (shares p m))))
+        steal : Full p n → Chosen p n s q c (orElse (loses s (toLoser (overShare (counted s c) (shares p m)))) Stolen (Refused 11))
         steal f = rw (r, over-same (counted s c) (withNew p n c) q (λ d. ap (λ (k : ℕ). k + bit (eqb d c)) (count-notes d))) (rob f (overShare (withNew p n c) q) refl)
 
         full : ((g : ℕ) → 1 ≤ occurs g (numbers p) → isIdle (at s g) ≡ false) → ((g : ℕ) → 1 ≤ occurs g (oldestFirst (s .ages)) → isReleasing (at s g) ≡ false) → Full p n
         full a b g k = let i = a g (in-numbers p g k) in ap isNote (e g) ∙ rest-notes (at s g) (o .states g) i (b g (in-order g i))
 
         next : ((g : ℕ) → 1 ≤ occurs g (numbers p) → isIdle (at s g) ≡ false) → (x : Option ℕ) → Picked (λ g. isReleasing (at s g)) (oldestFirst (s .ages)) x
-            → Chosen p n s q c (orElse5 s m p c (found x))
+            → Chosen p n s q c (orElse (found x) Release (orElse (victim s m p c) Stolen (Refused 11)))
         next a x (some-one g b k) = free g Release refl (below g (releasing-sounds (at s g) b)) (e g ∙ releasing-slot (at s g) b)
         next a x (no-one b) = steal (full a b)
 
-        go : (x : Option ℕ) → Picked (λ g. isIdle (at s g)) (numbers p) x → Chosen p n s q c (orElse4 s m p c (found x))
+        go : (x : Option ℕ) → Picked (λ g. isIdle (at s g)) (numbers p) x → Chosen p n s q c (orElse (found x) Idle (orElse (oldest Releasing s) Release (orElse (victim s m p c) Stolen (Refused 11))))
         go x (some-one g b k) = free g Idle refl (numbers-in p g k) (e g ∙ idle-slot (at s g) b)
         go x (no-one a) = next a (firstOf (λ g. isReleasing (at s g)) (oldestFirst (s .ages))) (first-law (λ g. isReleasing (at s g)) (oldestFirst (s .ages)))

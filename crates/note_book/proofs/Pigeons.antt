@@ -17,7 +17,7 @@ use Rattle.table.specs.Table.{listed}
 use Rattle.shares.specs.declared.Share.{Share}
 use Rattle.shares.specs.declared.Share.the-variants.{Masked, Units}
 use Rattle.shares.specs.Shares.{sum, lookup}
-use Rattle.stealing.specs.Stealing.{orElse, overShare}
+use Rattle.stealing.specs.Stealing.{otherwise, overShare}
 use Rattle.note_book.specs.Demand3.{Slot, empty, note, isOf, isNote, notesOn}
 
 abbrev sumBy : (ℕ → ℕ) → List Entry → ℕ
@@ -36,7 +36,7 @@ unfolding overShare
 none-le n [] e = omega arith
 none-le n (x ∷ q) e = go (overShare n q) refl (ltb (x .value) (n (x .channel))) refl e (none-le n q)
   where
-    go : (o : Option ℕ) → overShare n q ≡ o → (b : Bool) → ltb (x .value) (n (x .channel)) ≡ b → orElse o (if b then some (x .channel) else none) ≡ none
+    go : (o : Option ℕ) → overShare n q ≡ o → (b : Bool) → ltb (x .value) (n (x .channel)) ≡ b → otherwise o (if b then some (x .channel) else none) ≡ none
         → (overShare n q ≡ none → sumBy n q ≤ sum q) → n (x .channel) + sumBy n q ≤ x .value + sum q
     go (some d) eo b eb e ih = absurd (let z : _≡_ {A = ℕ} 0 1 = cc in omega arith)
     go none eo true eb e ih = absurd (let z : _≡_ {A = ℕ} 0 1 = cc in omega arith)
@@ -64,7 +64,7 @@ over-some n (x ∷ q) d u e = go (overShare n q) refl (ltb (x .value) (n (x .cha
     there true eb l = absurd (unlisted-masked d q (n d) (ap (λ (y : ℕ). listed y q) (eqb-true d (x .channel) eb) ∙ u .0) l)
     there false eb l = l
 
-    go : (o : Option ℕ) → overShare n q ≡ o → (b : Bool) → ltb (x .value) (n (x .channel)) ≡ b → orElse o (if b then some (x .channel) else none) ≡ some d
+    go : (o : Option ℕ) → overShare n q ≡ o → (b : Bool) → ltb (x .value) (n (x .channel)) ≡ b → otherwise o (if b then some (x .channel) else none) ≡ some d
         → (overShare n q ≡ some d → IsOver (lookup d q) (n d)) → IsOver (if eqb d (x .channel) then Units (x .value) else lookup d q) (n d)
     go (some y) eo b eb e ih = there (eqb d (x .channel)) refl (ih (eo ∙ e))
     go none eo true eb e ih = here (cc) (ltb-true (x .value) (n (x .channel)) eb)

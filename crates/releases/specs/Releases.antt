@@ -7,7 +7,7 @@ use lib.Dec.{eqb}
 use Rattle.loops.specs.Cases.{if_then_else_}
 use Rattle.loops.specs.Passes.{upTo}
 use Rattle.generators.specs.declared.Generators.{Generators}
-use Rattle.generators.specs.Generators.{Generator, at, isHeld, isSustained, isBusy, isOn, isBusyOn}
+use Rattle.generators.specs.Generators.{Generator, at, sustained, releasing, isHeld, isSustained, isOn, isBusyOn}
 use Rattle.releases.specs.declared.Change.{Change}
 use Rattle.releases.specs.declared.Change.the-variants.{ReleaseNote, ReleaseChannel, NoteOff, AllNotesOff, PedalUp}
 
@@ -25,15 +25,15 @@ changes (PedalUp c) x = isSustained x && isOn c x
 
 -- the state after a key came up
 abbrev pub keyUp : Bool → ℕ
-keyUp pedal = if pedal then 2 else 3
+keyUp pedal = if pedal then sustained else releasing
 
 -- the state that those generators go to
 unfoldable pub stateAfter : Change → ℕ
-stateAfter (ReleaseNote c k) = 3
-stateAfter (ReleaseChannel c) = 3
+stateAfter (ReleaseNote c k) = releasing
+stateAfter (ReleaseChannel c) = releasing
 stateAfter (NoteOff pedal c k) = keyUp pedal
 stateAfter (AllNotesOff pedal c) = keyUp pedal
-stateAfter (PedalUp c) = 3
+stateAfter (PedalUp c) = releasing
 
 abbrev pub withStates : Generators → List ℕ → Generators
 withStates s l = record { state = l; channel = s .channel; key = s .key; ages = s .ages }

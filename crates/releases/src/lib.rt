@@ -1,13 +1,12 @@
 // Changes of state: what keys, pedals and masks do to notes (document 01, "Note-on", step 2, and "Other messages"), by value, for every value,
 // in one pass over the generators. Assumes nothing.
 ghost use mathlib.Core.Path.{_≡_};
-ghost use mathlib.Core.Bool.{Bool, true, false};
 ghost use lib.ListN.{getD};
 ghost use Rattle.loops.specs.Cases.{if_then_else_};
 ghost use Rattle.loops.specs.Passes.{upTo};
 ghost use Rattle.generators.specs.Generators.{Generator, generator};
 ghost use Rattle.releases.specs.Releases.{changes, keyUp, stateAfter, changed};
-ghost use Rattle.releases.specs.Selection.{oneKey, everyKey, selects};
+ghost use Rattle.releases.specs.Selection.{isOneOf, selects};
 use generators::Generators;
 
 // What happens to the notes of a channel.
@@ -24,49 +23,54 @@ pub enum Change {
     PedalUp(u8),
 }
 
-// Generators by plain numbers: held ones, sustained ones or both, of a channel, and of one key or of every key.
+// One key, or every key.
+enum Keys {
+    One(u8),
+    Every,
+}
+
+// The generators that a change means, by plain numbers, so that a pass asks them of many at once: held ones, sustained ones or both, of a channel and of its keys.
 struct Selection {
     held: bool,
     sustained: bool,
     channel: u8,
-    every: bool,
-    key: u8,
+    keys: Keys,
 }
 
-fn one_key(held: bool, sustained: bool, channel: u8, key: u8) -> Selection
-    ensures { λ r. ⌜ r ≡ oneKey held sustained channel key ⌝ }
+fn select(change: Change) -> Selection
+    ensures { λ r. ⌜ ((x : Generator) → selects r x ≡ changes change x) ⌝ }
 {
-    Selection {
-        held: held,
-        sustained: sustained,
-        channel: channel,
-        every: false,
-        key: key,
-    }
-}
-
-fn every_key(held: bool, sustained: bool, channel: u8) -> Selection
-    ensures { λ r. ⌜ r ≡ everyKey held sustained channel ⌝ }
-{
-    Selection {
-        held: held,
-        sustained: sustained,
-        channel: channel,
-        every: true,
-        key: 0,
-    }
-}
-
-// The generators that a change means.
-fn select(h: Change) -> Selection
-    ensures { λ r. ⌜ ((x : Generator) → selects r x ≡ changes h x) ⌝ }
-{
-    match h {
-        Change::ReleaseNote(c, k) => one_key(true, true, c, k),
-        Change::ReleaseChannel(c) => every_key(true, true, c),
-        Change::NoteOff(_, c, k) => one_key(true, false, c, k),
-        Change::AllNotesOff(_, c) => every_key(true, false, c),
-        Change::PedalUp(c) => every_key(false, true, c),
+    match change {
+        Change::ReleaseNote(c, k) => Selection {
+            held: true,
+            sustained: true,
+            channel: c,
+            keys: Keys::One(k),
+        },
+        Change::ReleaseChannel(c) => Selection {
+            held: true,
+            sustained: true,
+            channel: c,
+            keys: Keys::Every,
+        },
+        Change::NoteOff(_, c, k) => Selection {
+            held: true,
+            sustained: false,
+            channel: c,
+            keys: Keys::One(k),
+        },
+        Change::AllNotesOff(_, c) => Selection {
+            held: true,
+            sustained: false,
+            channel: c,
+            keys: Keys::Every,
+        },
+        Change::PedalUp(c) => Selection {
+            held: false,
+            sustained: true,
+            channel: c,
+            keys: Keys::Every,
+        },
     }
 }
 
@@ -81,10 +85,10 @@ fn key_up(pedal: bool) -> u8
 }
 
 // The state that they go to; never IDLE, since a generator that falls silent leaves the order of age too.
-fn state_after(h: Change) -> u8
-    ensures { λ r. ⌜ r ≡ stateAfter h ⌝ }
+fn state_after(change: Change) -> u8
+    ensures { λ r. ⌜ r ≡ stateAfter change ⌝ }
 {
-    match h {
+    match change {
         Change::ReleaseNote(_, _) => generators::RELEASING,
         Change::ReleaseChannel(_) => generators::RELEASING,
         Change::NoteOff(pedal, _, _) => key_up(pedal),
@@ -93,11 +97,22 @@ fn state_after(h: Change) -> u8
     }
 }
 
+fn is_one_of(keys: Keys, key: u8) -> bool
+    ensures { λ r. ⌜ r ≡ isOneOf keys key ⌝ }
+{
+    match keys {
+        Keys::One(k) => key == k,
+        Keys::Every => true,
+    }
+}
+
 fn selects(w: Selection, state: u8, channel: u8, key: u8) -> bool
     ensures { λ r. ⌜ r ≡ selects w (generator state channel key) ⌝ }
 {
-    ((w.held & (state == generators::HELD)) | (w.sustained & (state == generators::SUSTAINED)))
-        & ((channel == w.channel) & (w.every | (key == w.key)))
+    let keys = w.keys;
+    let is_state = (w.held & (state == generators::HELD))
+        | (w.sustained & (state == generators::SUSTAINED));
+    (is_state & (channel == w.channel)) & is_one_of(keys, key)
 }
 
 // The states after the selected generators went to another.
@@ -120,14 +135,14 @@ fn states_after(
 }
 
 // The generators after a change.
-pub fn apply(s: Generators, h: Change) -> Generators
-    ensures { λ r. ⌜ r ≡ changed h s ⌝ }
+pub fn apply(generators: Generators, change: Change) -> Generators
+    ensures { λ r. ⌜ r ≡ changed change generators ⌝ }
 {
-    let state = s.state;
-    let channel = s.channel;
-    let keys = s.key;
-    let after = states_after(state, channel, keys, select(h), state_after(h));
-    let mut next = s;
+    let state = generators.state;
+    let channel = generators.channel;
+    let keys = generators.key;
+    let after = states_after(state, channel, keys, select(change), state_after(change));
+    let mut next = generators;
     next.state = after;
     next
 }

@@ -24,8 +24,8 @@ use Rattle.generators.specs.Generators.{assigned, silent}
 use Rattle.releases.specs.Releases.{changes, stateAfter, changed}
 use Rattle.silence.specs.Silence.{isAmong, leaves, silenced}
 use Rattle.candidates.specs.Candidates.{lowestIdle, wanted, oldest, busyCount}
-use Rattle.stealing.specs.Stealing.{overShare, stealFrom}
-use Rattle.allocation.specs.Allocation.{cleared, step5, choice, noteOn}
+use Rattle.stealing.specs.Stealing.{overShare, stealFrom, victim}
+use Rattle.allocation.specs.Allocation.{cleared, choice, noteOn}
 use Rattle.instrument.specs.Instrument.{fresh, channelAt, replaced, channelOf, withChannel, isRhythm}
 use Rattle.masking.specs.Masking.{masked}
 use Rattle.other_messages.specs.OtherMessages.{notesAfter, playControl, playNoteOff}
@@ -186,5 +186,5 @@ pub worked-page : pageText (after Live (begin 24 0) song .device) ≡
     ∷ 49 ∷ 53 ∷ 32 ∷ 45 ∷ 45 ∷ 32 ∷ 45 ∷ 45 ∷ 45 ∷ 32 ∷ 45 ∷ 45 ∷ 45 ∷ 32 ∷ 77 ∷ 32 ∷ 32 ∷ 48 ∷ 10
     -- 16  4 100 --- M  0
     ∷ 49 ∷ 54 ∷ 32 ∷ 32 ∷ 52 ∷ 32 ∷ 49 ∷ 48 ∷ 48 ∷ 32 ∷ 45 ∷ 45 ∷ 45 ∷ 32 ∷ 77 ∷ 32 ∷ 32 ∷ 48 ∷ 10 ∷ []
-unfolding upTo total filterBy firstOf padded begun stored oneDataByte completed dataByte opened ended statusByte split decode tableOf startTable listed sharesFrom lookup shareOf isMip isSystemOn kindOf pairs faulty judged groupOf excludes of-channel.fresh of-controllers.dataEntry of-controllers.stored of-controllers.controlled agesOf newest assigned silent changes stateAfter changed isAmong leaves silenced lowestIdle wanted oldest busyCount overShare stealFrom cleared step5 choice noteOn fresh channelAt replaced channelOf withChannel isRhythm masked notesAfter playControl playNoteOff playNoteOn played started newTable mipTaken exclusive heard byteTaken taken reportTaken reported after inTwo inThree standingFrom head line row rowsTo pageOf pageText
+unfolding upTo total filterBy firstOf padded begun stored oneDataByte completed dataByte opened ended statusByte split decode tableOf startTable listed sharesFrom lookup shareOf isMip isSystemOn kindOf pairs faulty judged groupOf excludes of-channel.fresh of-controllers.dataEntry of-controllers.stored of-controllers.controlled agesOf newest assigned silent changes stateAfter changed isAmong leaves silenced lowestIdle wanted oldest busyCount overShare stealFrom victim cleared choice noteOn fresh channelAt replaced channelOf withChannel isRhythm masked notesAfter playControl playNoteOff playNoteOn played started newTable mipTaken exclusive heard byteTaken taken reportTaken reported after inTwo inThree standingFrom head line row rowsTo pageOf pageText
 worked-page = refl

@@ -12,6 +12,7 @@ use Rattle.loops.specs.Passes.{total}
 use Rattle.table.specs.declared.Entry.{Entry}
 use Rattle.table.specs.declared.Table.{Table}
 use Rattle.table.specs.Table.{entriesOf}
+use Rattle.generators.specs.Generators.{held, sustained}
 use Rattle.device.specs.declared.Device.{Device}
 use Rattle.events.specs.declared.Event.{Event}
 use Rattle.queries.specs.declared.GeneratorAnswer.{GeneratorAnswer}
@@ -49,9 +50,9 @@ markTold IsMasked = 77 ∷ []
 markTold IsUnmasked = 45 ∷ []
 markTold NoSuchChannel = []
 
--- a generator that a query tells to be held, 1, or sustained, 2; one on channel c
+-- a generator that a query tells to be held or sustained; one on channel c
 abbrev pub isBusyTold : GeneratorAnswer → Bool
-isBusyTold (GeneratorIs state channel key) = eqb state 1 || eqb state 2
+isBusyTold (GeneratorIs state channel key) = eqb state held || eqb state sustained
 isBusyTold NoGenerator = false
 
 abbrev pub isOnTold : ℕ → GeneratorAnswer → Bool

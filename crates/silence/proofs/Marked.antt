@@ -8,11 +8,11 @@ use native.Mathlib.Omega.{arith}
 use lib.Dec.{eqb}
 use lib.ListN.{length, getD, List·getD-eq-default}
 use Rattle.loops.specs.Cases.{if_then_else_}
-use Rattle.loops.specs.Passes.{upTo, filterBy, marksOf}
+use Rattle.loops.specs.Passes.{upTo, marksOf}
 use Rattle.loops.proofs.Fill.{upTo-same}
 use Rattle.loops.proofs.Marks.{no-mark}
 use Rattle.loops.proofs.Search.{filter-same}
-use Rattle.ages.specs.Ages.{oldestFirst, agesOf, unmarked, without}
+use Rattle.ages.specs.Ages.{oldestFirst, unmarked, without}
 use Rattle.generators.specs.declared.Generators.{Generators}
 use Rattle.silence.specs.declared.Leaving.{Leaving}
 use Rattle.generators.specs.Generators.{generator, at}

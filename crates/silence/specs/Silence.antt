@@ -7,7 +7,7 @@ use Rattle.loops.specs.Passes.{upTo, filterBy}
 use Rattle.drums.specs.Drums.{excludes}
 use Rattle.ages.specs.Ages.{oldestFirst, agesOf}
 use Rattle.generators.specs.declared.Generators.{Generators}
-use Rattle.generators.specs.Generators.{Generator, at, isSounding, isOn}
+use Rattle.generators.specs.Generators.{Generator, at, idle, isSounding, isOn}
 use Rattle.silence.specs.declared.Leaving.{Leaving}
 use Rattle.silence.specs.declared.Leaving.the-variants.{One, Channel, Group}
 
@@ -28,7 +28,7 @@ goes l s g = leaves l g (at s g)
 unfoldable pub silenced : Leaving → Generators → Generators
 silenced l s =
     record {
-      state = upTo (λ g. if goes l s g then 0 else at s g .state) 64;
+      state = upTo (λ g. if goes l s g then idle else at s g .state) 64;
       channel = upTo (λ g. if goes l s g then 0 else at s g .channel) 64;
       key = upTo (λ g. if goes l s g then 0 else at s g .key) 64;
       ages = agesOf (filterBy (λ g. not (goes l s g)) (oldestFirst (s .ages)));

@@ -19,13 +19,13 @@ pub enum Leaving {
     Group(u8, u8),
 }
 
-fn leaves(l: Leaving, g: u8, state: u8, channel: u8, key: u8) -> bool
-    ensures { λ r. ⌜ r ≡ leaves l g (generator state channel key) ⌝ }
+fn leaves(leaving: Leaving, g: u8, state: u8, channel: u8, key: u8) -> bool
+    ensures { λ r. ⌜ r ≡ leaves leaving g (generator state channel key) ⌝ }
 {
     if state == generators::IDLE {
         return false;
     }
-    match l {
+    match leaving {
         Leaving::One(h) => g == h,
         Leaving::Channel(c) => channel == c,
         Leaving::Group(c, k) => (channel == c) & drums::excluded(k, key),
@@ -33,13 +33,13 @@ fn leaves(l: Leaving, g: u8, state: u8, channel: u8, key: u8) -> bool
 }
 
 // A mark for each generator that becomes idle.
-fn marks(state: [u8; 64], channel: [u8; 64], keys: [u8; 64], l: Leaving) -> [u8; 256]
-    ensures { λ r. ⌜ r ≡ marksOf (λ g. leaves l g (generator (getD state g 0) (getD channel g 0) (getD keys g 0))) ⌝ }
+fn marks(state: [u8; 64], channel: [u8; 64], keys: [u8; 64], leaving: Leaving) -> [u8; 256]
+    ensures { λ r. ⌜ r ≡ marksOf (λ g. leaves leaving g (generator (getD state g 0) (getD channel g 0) (getD keys g 0))) ⌝ }
 {
     let mut out = [0u8; 256];
     let mut i: usize = 0;
     while i < 64 {
-        out[i] = loops::one(leaves(l, i as u8, state[i], channel[i], keys[i]));
+        out[i] = loops::one(leaves(leaving, i as u8, state[i], channel[i], keys[i]));
         i += 1;
     }
     out
@@ -59,14 +59,14 @@ fn unmarked(numbers: [u8; 64], marks: [u8; 256]) -> [u8; 64]
 }
 
 // Generators that become idle also leave the order of age.
-pub fn fall_silent(s: Generators, l: Leaving) -> Generators
-    ensures { λ r. ⌜ r ≡ silenced l s ⌝ }
+pub fn fall_silent(generators: Generators, leaving: Leaving) -> Generators
+    ensures { λ r. ⌜ r ≡ silenced leaving generators ⌝ }
 {
-    let state = s.state;
-    let channel = s.channel;
-    let keys = s.key;
-    let gone = marks(state, channel, keys, l);
-    let order = s.ages;
+    let state = generators.state;
+    let channel = generators.channel;
+    let keys = generators.key;
+    let gone = marks(state, channel, keys, leaving);
+    let order = generators.ages;
     let left = order.without(gone);
     let states_left = unmarked(state, gone);
     let channels_left = unmarked(channel, gone);

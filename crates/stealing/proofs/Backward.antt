@@ -1,11 +1,11 @@
 -- The channel of lowest priority over its share, looked for from the table's end: an entry that is over its share is the answer for the entries up to it,
 -- and one that is not leaves the answer to the entries before it.
 -- Assumes nothing.
-use mathlib.Core.Path.{_≡_, refl, sym, ap, _∙_}
+use mathlib.Core.Path.{_≡_, refl, ap, _∙_}
 use mathlib.Core.Bool.{Bool, true, false, _&&_}
 use mathlib.Core.List.{List, [], _∷_, _++_}
 use mathlib.Core.Option.{Option, some, none}
-use Prim.Native.Nat.{ℕ, zero, suc, _+_, _-_, _≤_, _<_}
+use Prim.Native.Nat.{ℕ, zero, suc, _-_, _≤_, _<_}
 use native.Mathlib.Omega.{arith}
 use borrow.Author.Tests.{ne-eqb}
 use lib.Dec.{eqb, leb, ltb}
@@ -15,7 +15,7 @@ use Rattle.loops.specs.Cases.{if_then_else_}
 use Rattle.table.specs.declared.Entry.{Entry}
 use Rattle.table.specs.Table.{entry}
 use Rattle.shares.specs.Shares.{sharesFrom}
-use Rattle.stealing.specs.Stealing.{orElse, overShare}
+use Rattle.stealing.specs.Stealing.{otherwise, overShare}
 
 abbrev none-entry : Entry
 none-entry = entry 0 0
@@ -39,9 +39,9 @@ last-take l (suc i) h =
     rw (take-suc l i none-entry (omega arith), ne-eqb (suc i) 0 (λ (q : suc i ≡ 0). omega arith), e)
     (last-snoc 0 (take i l) (getD l i none-entry))
 
-orElse-assoc : (a b c : Option ℕ) → orElse (orElse a b) c ≡ orElse a (orElse b c)
-orElse-assoc (some x) b c = refl
-orElse-assoc none b c = refl
+otherwise-assoc : (a b c : Option ℕ) → otherwise (otherwise a b) c ≡ otherwise a (otherwise b c)
+otherwise-assoc (some x) b c = refl
+otherwise-assoc none b c = refl
 
 module _ (p : ℕ) where
   -- the share of one entry, if it is unmasked
@@ -60,16 +60,16 @@ module _ (p : ℕ) where
       go false ih = ih
 
   module _ (n : ℕ → ℕ) where
-    over-append : (l m : List Entry) → overShare n (l ++ m) ≡ orElse (overShare n m) (overShare n l)
+    over-append : (l m : List Entry) → overShare n (l ++ m) ≡ otherwise (overShare n m) (overShare n l)
     unfolding overShare
     over-append [] m = go (overShare n m)
       where
-        go : (o : Option ℕ) → o ≡ orElse o none
+        go : (o : Option ℕ) → o ≡ otherwise o none
         go (some x) = refl
         go none = refl
     over-append (x ∷ l) m =
-        ap (λ (o : Option ℕ). orElse o (if ltb (x .value) (n (x .channel)) then some (x .channel) else none)) (over-append l m)
-        ∙ orElse-assoc (overShare n m) (overShare n l) _
+        ap (λ (o : Option ℕ). otherwise o (if ltb (x .value) (n (x .channel)) then some (x .channel) else none)) (over-append l m)
+        ∙ otherwise-assoc (overShare n m) (overShare n l) _
 
     -- whether entry e is over its share, where v is the value before it
     abbrev pub isOver : ℕ → Entry → Bool
@@ -91,7 +91,7 @@ module _ (p : ℕ) where
       abbrev upTo-entry : ℕ → Option ℕ
       upTo-entry j = overShare n (sharesFrom p 0 (take j l))
 
-      turn : upTo-entry i ≡ orElse (if isOver (before l (i - 1)) here then some (here .channel) else none) (upTo-entry (i - 1))
+      turn : upTo-entry i ≡ otherwise (if isOver (before l (i - 1)) here then some (here .channel) else none) (upTo-entry (i - 1))
       turn =
           let e : i ≡ suc (i - 1) = omega arith in
           let s : take i l ≡ take (i - 1) l ++ (here ∷ []) = ap (λ (j : ℕ). take j l) e ∙ take-suc l (i - 1) none-entry (omega arith) in
@@ -99,7 +99,7 @@ module _ (p : ℕ) where
           ap (λ (m : List Entry). overShare n (sharesFrom p 0 m)) s
           ∙ ap (overShare n) (shares-snoc 0 (take (i - 1) l) here)
           ∙ over-append (sharesFrom p 0 (take (i - 1) l)) (share (lastValue 0 (take (i - 1) l)) here)
-          ∙ ap (λ (o : Option ℕ). orElse o (upTo-entry (i - 1))) (over-one (lastValue 0 (take (i - 1) l)) here ∙ ap (λ (v : ℕ). if isOver v here then some (here .channel) else none) v)
+          ∙ ap (λ (o : Option ℕ). otherwise o (upTo-entry (i - 1))) (over-one (lastValue 0 (take (i - 1) l)) here ∙ ap (λ (v : ℕ). if isOver v here then some (here .channel) else none) v)
 
       pub over-yes : (r : Option ℕ) → upTo-entry i ≡ r → isOver (before l (i - 1)) here ≡ true → some (here .channel) ≡ r
       over-yes r e t = rw (turn, t) at e

@@ -1,4 +1,4 @@
--- Document 01, "Note-on", step 5: the channel to steal from.
+-- Document 01, "Note-on", step 5: the channel to steal from, and the generator that is stolen.
 use Prim.Native.Nat.{ℕ, _+_}
 use mathlib.Core.List.{List, [], _∷_}
 use mathlib.Core.Option.{Option, some, none}
@@ -8,7 +8,10 @@ use Rattle.table.specs.declared.Entry.{Entry}
 use Rattle.table.specs.declared.Table.{Table}
 use Rattle.shares.specs.Shares.{shares}
 use Rattle.generators.specs.declared.Generators.{Generators}
-use Rattle.candidates.specs.Candidates.{busyCount}
+use Rattle.candidates.specs.declared.Found.{Found}
+use Rattle.candidates.specs.declared.Found.the-variants.{Nothing}
+use Rattle.candidates.specs.declared.Want.the-variants.{BusyOn}
+use Rattle.candidates.specs.Candidates.{oldest, busyCount}
 use Rattle.stealing.specs.declared.Loser.{Loser}
 use Rattle.stealing.specs.declared.Loser.the-variants.{Channel, Nobody}
 
@@ -16,14 +19,14 @@ use Rattle.stealing.specs.declared.Loser.the-variants.{Channel, Nobody}
 abbrev pub counted : Generators → ℕ → ℕ → ℕ
 counted s new c = busyCount s c + bit (eqb c new)
 
-abbrev pub orElse : Option ℕ → Option ℕ → Option ℕ
-orElse (some c) o = some c
-orElse none o = o
+abbrev pub otherwise : Option ℕ → Option ℕ → Option ℕ
+otherwise (some c) o = some c
+otherwise none o = o
 
 -- "Among channels over their share take that of lowest priority": the last one in the list of shares whose count n is over its share
 unfoldable pub overShare : (ℕ → ℕ) → List Entry → Option ℕ
 overShare n [] = none
-overShare n (e ∷ l) = orElse (overShare n l) (if ltb (e .value) (n (e .channel)) then some (e .channel) else none)
+overShare n (e ∷ l) = otherwise (overShare n l) (if ltb (e .value) (n (e .channel)) then some (e .channel) else none)
 
 abbrev pub toLoser : Option ℕ → Loser
 toLoser (some c) = Channel c
@@ -31,3 +34,12 @@ toLoser none = Nobody
 
 unfoldable pub stealFrom : Generators → Table → ℕ → ℕ → Loser
 stealFrom s t p new = toLoser (overShare (counted s new) (shares p t))
+
+-- "Its oldest busy generator is stolen"
+abbrev pub loses : Generators → Loser → Found
+loses s (Channel d) = oldest (BusyOn d) s
+loses s Nobody = Nothing
+
+-- step 5 whole: the generator that a new note of this channel steals, where all are busy
+unfoldable pub victim : Generators → Table → ℕ → ℕ → Found
+victim s t p new = loses s (stealFrom s t p new)

@@ -17,8 +17,8 @@ use Rattle.generators.specs.Generators.{assigned, silent}
 use Rattle.releases.specs.Releases.{changes, stateAfter, changed}
 use Rattle.silence.specs.Silence.{isAmong, leaves, silenced}
 use Rattle.candidates.specs.Candidates.{lowestIdle, wanted, oldest, busyCount}
-use Rattle.stealing.specs.Stealing.{overShare, stealFrom}
-use Rattle.allocation.specs.Allocation.{cleared, step5, choice, noteOn}
+use Rattle.stealing.specs.Stealing.{overShare, stealFrom, victim}
+use Rattle.allocation.specs.Allocation.{cleared, choice, noteOn}
 use Rattle.instrument.specs.Instrument.{fresh, isRhythm}
 use Rattle.playing.specs.Playing.{playNoteOn, played}
 use Rattle.device.specs.Device.{started, heard, byteTaken}
@@ -76,7 +76,7 @@ theft = after Live (begin 1 0) (Byte 0x90 ∷ Byte 60 ∷ Byte 64 ∷ Byte 0x99 
 
 -- the loss does happen, and the claim gives what it stands on: generator 0 had a note, and not one that the drum ends
 pub theft-when-full : (isLoss (theft .book) 10 36 (Live .answer theft (Byte 64)) ≡ true) × ((isNote (theft .book .notes 0) ≡ true) × (isEnded true 10 36 (theft .book .notes 0) ≡ false))
-unfolding upTo total filterBy firstOf padded begun stored oneDataByte completed dataByte opened ended statusByte split decode tableOf startTable sharesFrom lookup shareOf groupOf excludes agesOf newest assigned silent changes stateAfter changed isAmong leaves silenced lowestIdle wanted oldest busyCount overShare stealFrom cleared step5 choice noteOn fresh isRhythm playNoteOn played started heard byteTaken taken keepMessage keep after
+unfolding upTo total filterBy firstOf padded begun stored oneDataByte completed dataByte opened ended statusByte split decode tableOf startTable sharesFrom lookup shareOf groupOf excludes agesOf newest assigned silent changes stateAfter changed isAmong leaves silenced lowestIdle wanted oldest busyCount overShare stealFrom victim cleared choice noteOn fresh isRhythm playNoteOn played started heard byteTaken taken keepMessage keep after
 theft-when-full =
     let lost : isLoss (theft .book) 10 36 (Live .answer theft (Byte 64)) ≡ true = refl in
     (lost, demand-3 1 0 (Byte 0x90 ∷ Byte 60 ∷ Byte 64 ∷ Byte 0x99 ∷ Byte 36 ∷ Byte 64 ∷ []) .fair .1 .1 .1 .1 .1 .0 lost 0 1-of-1)

@@ -1,4 +1,4 @@
--- `allocation::choose` meets its contract: each search found a generator, or the next one decides.
+-- `allocation::choose` meets its contract: each search found a generator, or the next one decides, and behind the last stands number 11.
 -- Assumes nothing.
 use mathlib.Core.Path.{sym, _∙_}
 use Rattle.allocation.specs.Allocation.{choice}
@@ -34,14 +34,28 @@ returns-2 c =
 enum-told-2 : tie.Need-enum-told-2
 enum-told-2 c = search needs
 
-steal-requires : tie.Need-steal-requires
-steal-requires c κs = search needs
+victim-requires : tie.Need-victim-requires
+victim-requires c κs = search needs
+
+enum-known-g-3 : tie.Need-enum-known-g-3
+enum-known-g-3 c = search needs
 
 returns-3 : tie.Need-returns-3
 unfolding choice
 returns-3 c =
-    let b = c .before .before .before .before in
-    simp (sym (b .before .before .lowest-idle .ensures) ∙ b .enum-told .given .1, sym (c .before .before .before .oldest .ensures) ∙ c .before .enum-told2 .given .1, c .steal .ensures)
+    let o = c .before .before .before .before in
+    let b = o .before .before .before in
+    simp (sym (b .before .before .lowest-idle .ensures) ∙ b .enum-told .given .1, sym (o .before .before .oldest .ensures) ∙ o .enum-told2 .given .1, sym (c .before .before .before .victim .ensures) ∙ c .before .g3 .given .1)
+
+enum-told-3 : tie.Need-enum-told-3
+enum-told-3 c = search needs
+
+returns-4 : tie.Need-returns-4
+unfolding choice
+returns-4 c =
+    let o = c .before .before .before in
+    let b = o .before .before .before in
+    simp (sym (b .before .before .lowest-idle .ensures) ∙ b .enum-told .given .1, sym (o .before .before .oldest .ensures) ∙ o .enum-told2 .given .1, sym (c .before .before .victim .ensures) ∙ c .enum-told3 .given .1)
 
 pub choose-spec : {M : Type 1} → statement M
 choose-spec =
@@ -55,5 +69,8 @@ choose-spec =
     enum-known-g-2
     returns-2
     enum-told-2
-    steal-requires
-    returns-3)
+    victim-requires
+    enum-known-g-3
+    returns-3
+    enum-told-3
+    returns-4)

@@ -1,6 +1,6 @@
--- `candidates::busy_count` meets its contract, by the count of those sought.
+-- `candidates::busy_count` meets its contract, by the count of those wanted.
 -- Assumes nothing.
-use Rattle.candidates.specs.Candidates.{busyCount}
+use Rattle.candidates.specs.Candidates.{wanted, busyCount}
 use borrow.Author.Needs.{needs}
 use Rattle.candidates.proofs.busy_count.Statement.{statement}
 use Rattle.candidates.proofs.busy_count.Tie as tie
@@ -9,7 +9,7 @@ how-many-requires : tie.Need-how-many-requires
 how-many-requires c κs = search needs
 
 returns : tie.Need-returns
-unfolding busyCount
+unfolding busyCount wanted
 returns c = c .how-many .ensures
 
 pub busy-count-spec : {M : Type 1} → statement M

@@ -1,6 +1,6 @@
 -- `candidates::first_marked` meets its contract. Invariant: the first generator with a mark in the order from i on is the first of all.
 -- Assumes nothing.
-use Prim.Native.Nat.{ℕ, _≤_, _<_, _-_}
+use Prim.Native.Nat.{ℕ, _≤_, _-_}
 use mathlib.Core.Path.{_≡_, refl, ap}
 use mathlib.Core.Bool.{Bool, not}
 use mathlib.Core.List.{List}

@@ -6,29 +6,29 @@ use native.Mathlib.Omega.{arith}
 use Rattle.loops.specs.Cases.{bit}
 use Rattle.loops.specs.Passes.{total}
 use Rattle.loops.proofs.Totals.{total-next}
-use Rattle.candidates.specs.Candidates.{soughtAt}
+use Rattle.candidates.proofs.Wanted.{wantedAt}
 use borrow.Author.Needs.{needs}
 use Rattle.candidates.proofs.how_many.Statement.{statement}
 use Rattle.candidates.proofs.how_many.Tie as tie
 
 abbrev Inv-loop : tie.InvT-loop
-Inv-loop busy c state channel n₀ i₀ n i = (i ≤ 64) × (n ≤ i) × (n ≡ total (λ g. bit (soughtAt busy c state channel g)) i)
+Inv-loop want state channel n₀ i₀ n i = (i ≤ 64) × (n ≤ i) × (n ≡ total (λ g. bit (wantedAt want state channel g)) i)
 
 abbrev μ-loop : tie.MeasureT-loop
-μ-loop busy c state channel n₀ i₀ n i = 64 - i
+μ-loop want state channel n₀ i₀ n i = 64 - i
 
 loop-holds : tie.Need-loop-holds Inv-loop μ-loop
 unfolding total
 loop-holds c = (omega arith, omega arith, refl)
 
-array-read-is-sought : tie.Need-array-read-is-sought Inv-loop μ-loop
-array-read-is-sought c = search needs
+array-read-is-wanted : tie.Need-array-read-is-wanted Inv-loop μ-loop
+array-read-is-wanted c = search needs
 
-array-read-is-sought-2 : tie.Need-array-read-is-sought-2 Inv-loop μ-loop
-array-read-is-sought-2 c = search needs
+array-read-is-wanted-2 : tie.Need-array-read-is-wanted-2 Inv-loop μ-loop
+array-read-is-wanted-2 c = search needs
 
-is-sought-requires : tie.Need-is-sought-requires Inv-loop μ-loop
-is-sought-requires c κs = search needs
+is-wanted-requires : tie.Need-is-wanted-requires Inv-loop μ-loop
+is-wanted-requires c κs = search needs
 
 one-requires : tie.Need-one-requires Inv-loop μ-loop
 one-requires c κs = search needs
@@ -46,8 +46,8 @@ loop-again : tie.Need-loop-again Inv-loop μ-loop
 loop-again c =
     let l = c .before .before .before .loop in
     let a = c .before .before .before .before .args in
-    let x = c .one .ensures .0 ∙ ap bit (c .before .is-sought .ensures) in
-    (omega arith, omega (arith, c .one .ensures .1), total-next (λ (g : ℕ). bit (soughtAt (a .busy) (a .c) (a .t1) (a .t2) g)) (l .i) (l .n) _ (l .inv .2) x)
+    let x = c .one .ensures .0 ∙ ap bit (c .before .is-wanted .ensures) in
+    (omega arith, omega (arith, c .one .ensures .1), total-next (λ (g : ℕ). bit (wantedAt (a .want) (a .t1) (a .t2) g)) (l .i) (l .n) _ (l .inv .2) x)
 
 returns : tie.Need-returns Inv-loop μ-loop
 returns c =
@@ -62,9 +62,9 @@ how-many-spec =
     Inv-loop
     μ-loop
     loop-holds
-    array-read-is-sought
-    array-read-is-sought-2
-    is-sought-requires
+    array-read-is-wanted
+    array-read-is-wanted-2
+    is-wanted-requires
     one-requires
     add-n
     add-i

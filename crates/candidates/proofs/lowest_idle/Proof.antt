@@ -1,7 +1,7 @@
 -- `candidates::lowest_idle` meets its contract. Invariant: the first idle generator from g on, below the smaller of 64 and p, is the first of all.
 -- Assumes nothing.
-use Prim.Native.Nat.{ℕ, _≤_, _<_, _-_}
-use mathlib.Core.Path.{_≡_, refl, sym, ap, _∙_}
+use Prim.Native.Nat.{ℕ, _≤_, _-_}
+use mathlib.Core.Path.{_≡_, refl, ap}
 use native.Mathlib.Omega.{arith}
 use mathlib.Core.Bool.{Bool}
 use mathlib.Core.List.{List}
@@ -40,7 +40,7 @@ returns : tie.Need-returns Inv-loop μ-loop
 unfolding lowestIdle
 returns c =
     let b = c .before .before in
-    let st = b .before .before .before .args .s .state in
+    let st = b .before .before .before .args .generators .state in
     let m = b .before .at-most in
     rw (← (m .ensures .0)) (ap found (number-yes (idleIn st) (m .result) (b .loop .g) _ (c .before .loop-test .taken) (b .loop .inv .2) (eq-eqb _ _ (c .if1 .taken))))
 
@@ -53,14 +53,14 @@ loop-less c = search needs
 loop-again : tie.Need-loop-again Inv-loop μ-loop
 loop-again c =
     let b = c .before .before in
-    let st = b .before .before .before .args .s .state in
+    let st = b .before .before .before .args .generators .state in
     (omega arith, b .loop .inv .1, number-no (idleIn st) (b .before .at-most .result) (b .loop .g) _ (c .before .loop-test .taken) (b .loop .inv .2) (ne-eqb _ _ (c .if1 .left)))
 
 returns-2 : tie.Need-returns-2 Inv-loop μ-loop
 unfolding lowestIdle
 returns-2 c =
     let b = c .before in
-    let st = b .before .before .before .args .s .state in
+    let st = b .before .before .before .args .generators .state in
     let m = b .before .at-most in
     rw (← (m .ensures .0)) (ap found (number-end (idleIn st) (m .result) (b .loop .g) _ (c .loop-test .left) (b .loop .inv .2)))
 

@@ -1,6 +1,6 @@
--- `candidates::marks` meets its contract. Invariant: the first i marks are those of the rule, the others 0. From 64 on no generator is sought.
+-- `candidates::marks` meets its contract. Invariant: the first i marks are those of the rule, the others 0. From 64 on no generator is wanted.
 -- Assumes nothing.
-use Prim.Native.Nat.{ℕ, _≤_, _<_, _-_}
+use Prim.Native.Nat.{ℕ, _≤_, _-_}
 use mathlib.Core.Path.{_≡_, refl, ap, _∙_}
 use mathlib.Core.List.{_++_}
 use native.Mathlib.Omega.{arith}
@@ -8,31 +8,30 @@ use lib.ListN.{length, drop, replicate}
 use Rattle.loops.specs.Cases.{bit}
 use Rattle.loops.specs.Passes.{upTo}
 use Rattle.loops.proofs.Fill.{fill-next}
-use Rattle.candidates.specs.Candidates.{soughtAt}
 use Rattle.loops.proofs.Marks.{room, marks-end}
-use Rattle.candidates.proofs.Sought.{sought-none}
+use Rattle.candidates.proofs.Wanted.{wantedAt, wanted-none}
 use borrow.Author.Needs.{needs}
 use Rattle.candidates.proofs.marks.Statement.{statement}
 use Rattle.candidates.proofs.marks.Tie as tie
 
 abbrev Inv-loop : tie.InvT-loop
-Inv-loop busy c state channel out₀ i₀ out i = (i ≤ 64) × (length state ≡ 64) × (out ≡ upTo (λ g. bit (soughtAt busy c state channel g)) i ++ drop i (replicate 256 0))
+Inv-loop want state channel out₀ i₀ out i = (i ≤ 64) × (length state ≡ 64) × (out ≡ upTo (λ g. bit (wantedAt want state channel g)) i ++ drop i (replicate 256 0))
 
 abbrev μ-loop : tie.MeasureT-loop
-μ-loop busy c state channel out₀ i₀ out i = 64 - i
+μ-loop want state channel out₀ i₀ out i = 64 - i
 
 loop-holds : tie.Need-loop-holds Inv-loop μ-loop
 unfolding upTo
 loop-holds c = (omega arith, c .good .0 .1 .0 .1, refl)
 
-array-read-is-sought : tie.Need-array-read-is-sought Inv-loop μ-loop
-array-read-is-sought c = search needs
+array-read-is-wanted : tie.Need-array-read-is-wanted Inv-loop μ-loop
+array-read-is-wanted c = search needs
 
-array-read-is-sought-2 : tie.Need-array-read-is-sought-2 Inv-loop μ-loop
-array-read-is-sought-2 c = search needs
+array-read-is-wanted-2 : tie.Need-array-read-is-wanted-2 Inv-loop μ-loop
+array-read-is-wanted-2 c = search needs
 
-is-sought-requires : tie.Need-is-sought-requires Inv-loop μ-loop
-is-sought-requires c κs = search needs
+is-wanted-requires : tie.Need-is-wanted-requires Inv-loop μ-loop
+is-wanted-requires c κs = search needs
 
 one-requires : tie.Need-one-requires Inv-loop μ-loop
 one-requires c κs = search needs
@@ -50,15 +49,15 @@ loop-again : tie.Need-loop-again Inv-loop μ-loop
 loop-again c =
     let l = c .before .before .before .loop in
     let a = c .before .before .before .before .args in
-    let x = c .one .ensures .0 ∙ ap bit (c .before .is-sought .ensures) in
-    (omega arith, l .inv .1, fill-next (λ (g : ℕ). bit (soughtAt (a .busy) (a .c) (a .t1) (a .t2) g)) 0 (replicate 256 0) (l .out) (l .i) _ (room (l .i) (omega arith)) (l .inv .2) x)
+    let x = c .one .ensures .0 ∙ ap bit (c .before .is-wanted .ensures) in
+    (omega arith, l .inv .1, fill-next (λ (g : ℕ). bit (wantedAt (a .want) (a .t1) (a .t2) g)) 0 (replicate 256 0) (l .out) (l .i) _ (room (l .i) (omega arith)) (l .inv .2) x)
 
 returns : tie.Need-returns Inv-loop μ-loop
 returns c =
     let l = c .before .loop in
     let a = c .before .before .args in
     let e : l .i ≡ 64 = omega arith in
-    marks-end (soughtAt (a .busy) (a .c) (a .t1) (a .t2)) 64 (sought-none (a .busy) (a .c) (a .t1) (a .t2) 0 (l .inv .1)) 192 refl (l .out) (rw e at (l .inv .2))
+    marks-end (wantedAt (a .want) (a .t1) (a .t2)) 64 (wanted-none (a .want) (a .t1) (a .t2) (l .inv .1)) 192 refl (l .out) (rw e at (l .inv .2))
 
 pub marks-spec : {M : Type 1} → statement M
 marks-spec =
@@ -67,9 +66,9 @@ marks-spec =
     Inv-loop
     μ-loop
     loop-holds
-    array-read-is-sought
-    array-read-is-sought-2
-    is-sought-requires
+    array-read-is-wanted
+    array-read-is-wanted-2
+    is-wanted-requires
     one-requires
     array-write-out
     add-i

@@ -1,36 +1,45 @@
--- `candidates::oldest` meets its contract: each case of the enum has its clause of the definition.
+-- `candidates::oldest` meets its contract: where none is counted none is found, and else the first with a mark is the first that is wanted.
 -- Assumes nothing.
-use Rattle.candidates.specs.Candidates.{wanted, oldest}
+use mathlib.Core.Path.{sym, ap, _∙_}
+use Rattle.generators.proofs.Sizes.{state-64}
+use Rattle.ages.specs.Ages.{oldestFirst}
+use Rattle.candidates.specs.Candidates.{found, oldest}
+use Rattle.candidates.proofs.Wanted.{found-none, found-marked}
 use borrow.Author.Needs.{needs}
 use Rattle.candidates.proofs.oldest.Statement.{statement}
 use Rattle.candidates.proofs.oldest.Tie as tie
 
-enum-told : tie.Need-enum-told
-enum-told c = search needs
-
-oldest-releasing-requires : tie.Need-oldest-releasing-requires
-oldest-releasing-requires c κs = search needs
-
-enum-known-w : tie.Need-enum-known-w
-enum-known-w c = search needs
-
-oldest-sought-requires : tie.Need-oldest-sought-requires
-oldest-sought-requires c κs = search needs
+how-many-requires : tie.Need-how-many-requires
+how-many-requires c κs = search needs
 
 returns : tie.Need-returns
-returns c = simp (c .before .enum-told .given .1, c .oldest-releasing .ensures)
+unfolding oldest
+returns c =
+    let b = c .before .before .before .before in
+    let s = b .args .generators in
+    let z = sym (c .before .how-many .ensures .0) ∙ c .if1 .taken in
+    sym (ap found (found-none (b .args .want) (s .state) (s .channel) (s .key) (state-64 s (b .good .0)) z (oldestFirst (s .ages))))
+
+marks-requires : tie.Need-marks-requires
+marks-requires c κs = search needs
+
+first-marked-requires : tie.Need-first-marked-requires
+first-marked-requires c κs = search needs
 
 returns-2 : tie.Need-returns-2
-unfolding oldest wanted
-returns-2 c = simp (c .before .before .w .given .1, c .oldest-sought .ensures)
+unfolding oldest
+returns-2 c =
+    let b = c .before .before .before .before .before .before .before in
+    let s = b .args .generators in
+    c .first-marked .ensures
+    ∙ ap found (found-marked (b .args .want) (s .state) (s .channel) (s .key) (state-64 s (b .good .0)) _ (c .before .marks .ensures) (oldestFirst (s .ages)))
 
 pub oldest-spec : {M : Type 1} → statement M
 oldest-spec =
     tie.close
     (tie.spec
-    enum-told
-    oldest-releasing-requires
-    enum-known-w
-    oldest-sought-requires
+    how-many-requires
     returns
+    marks-requires
+    first-marked-requires
     returns-2)

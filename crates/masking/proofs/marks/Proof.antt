@@ -1,7 +1,7 @@
 -- `masking::marks` meets its contract. Invariant: the first i marks are those of the rule, the others 0. From 17 on there is no channel.
 -- Assumes nothing.
 use Prim.Native.Nat.{ℕ, _≤_, _<_, _-_}
-use mathlib.Core.Path.{_≡_, refl, sym, ap, _∙_}
+use mathlib.Core.Path.{_≡_, refl, ap, _∙_}
 use mathlib.Core.Bool.{_&&_, not}
 use mathlib.Core.List.{List, _++_}
 use native.Mathlib.Omega.{arith}
@@ -77,8 +77,8 @@ returns c =
     let before = c .before .before .before .unmasked in
     let after = c .before .before .unmasked2 in
     let e : l .i ≡ 17 = omega arith in
-    let same : (k : ℕ) → k < 17 → rule (before .result) (after .result) k ≡ bit (isNewlyMasked (a .p) (a .old) (a .new) k) = λ k h. rw (before .ensures k (omega arith), after .ensures k (omega arith)) in
-    marks-end (isNewlyMasked (a .p) (a .old) (a .new)) 17 (no-channel (a .p) (a .old) (a .new)) 239 refl (l .out)
+    let same : (k : ℕ) → k < 17 → rule (before .result) (after .result) k ≡ bit (isNewlyMasked (a .polyphony) (a .old) (a .new) k) = λ k h. rw (before .ensures k (omega arith), after .ensures k (omega arith)) in
+    marks-end (isNewlyMasked (a .polyphony) (a .old) (a .new)) 17 (no-channel (a .polyphony) (a .old) (a .new)) 239 refl (l .out)
     ((rw e at (l .inv .1)) ∙ ap (λ (m : List ℕ). m ++ drop 17 (replicate 256 0)) (upTo-same _ _ 17 same))
 
 pub marks-spec : {M : Type 1} → statement M

@@ -14,7 +14,7 @@ release-requires c κs = search needs
 returns : tie.Need-returns
 returns c =
     let a = c .before .before .before .before .args in
-    simp (c .release .ensures, c .before .marks .ensures) (mask-of (a .p) (a .old) (a .new) (a .s))
+    simp (c .release .ensures, c .before .marks .ensures) (mask-of (a .polyphony) (a .old) (a .new) (a .generators))
 
 pub mask-spec : {M : Type 1} → statement M
 mask-spec = tie.close (tie.spec marks-requires release-requires returns)

@@ -1,13 +1,13 @@
 -- `masking::release` meets its contract. Invariant: the first i states are those of the rule, the others as they were.
 -- Assumes nothing.
-use Prim.Native.Nat.{ℕ, _≤_, _<_, _-_}
-use mathlib.Core.Path.{_≡_, refl, sym, ap, _∙_}
-use mathlib.Core.Bool.{Bool, _&&_, not}
+use Prim.Native.Nat.{ℕ, _≤_, _-_}
+use mathlib.Core.Path.{_≡_, refl}
+use mathlib.Core.Bool.{_&&_, not}
 use mathlib.Core.List.{List, _++_}
 use native.Mathlib.Omega.{arith}
 use lib.Dec.{eqb}
 use lib.ListN.{length, drop, getD}
-use Rattle.loops.specs.Cases.{if_then_else_, bit}
+use Rattle.loops.specs.Cases.{if_then_else_}
 use Rattle.loops.specs.Passes.{upTo}
 use Rattle.loops.proofs.Fill.{fill-next, fill-end}
 use Rattle.generators.specs.Generators.{generator, isBusy}

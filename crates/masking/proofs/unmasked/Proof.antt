@@ -1,7 +1,7 @@
 -- `masking::unmasked` meets its contract. Invariant: a channel has a mark, or is unmasked by an entry from i on, exactly where the table unmasks it.
 -- Assumes nothing.
-use Prim.Native.Nat.{ℕ, _≤_, _<_, _-_}
-use mathlib.Core.Path.{_≡_, refl, sym, ap, _∙_}
+use Prim.Native.Nat.{ℕ, _≤_, _-_}
+use mathlib.Core.Path.{_≡_, refl, ap, _∙_}
 use mathlib.Core.List.{List}
 use native.Mathlib.Omega.{arith}
 use borrow.Author.Needs.{needs}
@@ -27,7 +27,7 @@ cast-n : tie.Need-cast-n Inv-loop μ-loop
 cast-n c = omega arith
 
 loop-holds : tie.Need-loop-holds Inv-loop μ-loop
-loop-holds c = let s = c .before .before in (omega arith, omega arith, entries-16 (s .args .t) (s .good .0), refl, marked-none (s .args .p) (s .args .t .entries) (c .at-most .result))
+loop-holds c = let s = c .before .before in (omega arith, omega arith, entries-16 (s .args .table) (s .good .0), refl, marked-none (s .args .polyphony) (s .args .table .entries) (c .at-most .result))
 
 mul-e : tie.Need-mul-e Inv-loop μ-loop
 mul-e c = omega arith
@@ -60,7 +60,7 @@ loop-again c =
     let a = b .before .before .before .args in
     let k = c .before .before .place in
     let s = length-set {A = ℕ} (b .loop .out) (k .result) (c .if-else .result) in
-    (omega arith, omega arith, b .loop .inv .2, s ∙ b .loop .inv .3, marked-next (a .p) (a .t .entries) (n .result) (b .loop .i) (k .result) (c .if-else .result) (b .loop .out) (omega arith) (omega arith) (k .ensures .0) (omega arith) (c .if-else .ensures) (b .loop .inv .4))
+    (omega arith, omega arith, b .loop .inv .2, s ∙ b .loop .inv .3, marked-next (a .polyphony) (a .table .entries) (n .result) (b .loop .i) (k .result) (c .if-else .result) (b .loop .out) (omega arith) (omega arith) (k .ensures .0) (omega arith) (c .if-else .ensures) (b .loop .inv .4))
 
 returns : tie.Need-returns Inv-loop μ-loop
 unfolding shareOf
@@ -68,8 +68,8 @@ returns c =
     let b = c .before in
     let n = b .before .at-most in
     let a = b .before .before .before .args in
-    λ k h. marked-end (a .p) (a .t .entries) (n .result) (b .loop .i) 0 (b .loop .out) (omega arith) (b .loop .inv .4) k h
-    ∙ ap (λ (l : List Entry). isMasked (lookup k (sharesFrom (a .p) 0 l))) (all-entries (a .t) (n .result) (b .loop .inv .2) (n .ensures .0))
+    λ k h. marked-end (a .polyphony) (a .table .entries) (n .result) (b .loop .i) 0 (b .loop .out) (omega arith) (b .loop .inv .4) k h
+    ∙ ap (λ (l : List Entry). isMasked (lookup k (sharesFrom (a .polyphony) 0 l))) (all-entries (a .table) (n .result) (b .loop .inv .2) (n .ensures .0))
 
 pub unmasked-spec : {M : Type 1} → statement M
 unmasked-spec =

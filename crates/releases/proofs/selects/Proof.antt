@@ -1,13 +1,16 @@
--- `releases::selects` meets its contract, by computation.
+-- `releases::selects` meets its contract, by what `is_one_of` says of the key.
 -- Assumes nothing.
-use mathlib.Core.Path.{refl}
 use Rattle.releases.specs.Selection.{selects}
+use borrow.Author.Needs.{needs}
 use Rattle.releases.proofs.selects.Statement.{statement}
 use Rattle.releases.proofs.selects.Tie as tie
 
+is-one-of-requires : tie.Need-is-one-of-requires
+is-one-of-requires c κs = search needs
+
 returns : tie.Need-returns
 unfolding selects
-returns c = refl
+returns c = simp (c .is-one-of .ensures)
 
 pub selects-spec : {M : Type 1} → statement M
-selects-spec = tie.close (tie.spec returns)
+selects-spec = tie.close (tie.spec is-one-of-requires returns)

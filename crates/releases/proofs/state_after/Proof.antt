@@ -11,14 +11,14 @@ enum-told c = search needs
 enum-told-2 : tie.Need-enum-told-2
 enum-told-2 c = search needs
 
-enum-known-h : tie.Need-enum-known-h
-enum-known-h c = search needs
+enum-known-change : tie.Need-enum-known-change
+enum-known-change c = search needs
 
 key-up-requires : tie.Need-key-up-requires
 key-up-requires c κs = search needs
 
-enum-known-h-2 : tie.Need-enum-known-h-2
-enum-known-h-2 c = search needs
+enum-known-change-2 : tie.Need-enum-known-change-2
+enum-known-change-2 c = search needs
 
 key-up-requires-2 : tie.Need-key-up-requires-2
 key-up-requires-2 c κs = search needs
@@ -36,11 +36,11 @@ returns-2 c = simp (c .enum-told2 .given .1)
 
 returns-3 : tie.Need-returns-3
 unfolding stateAfter
-returns-3 c = simp (c .before .before .h .given .1, c .key-up .ensures)
+returns-3 c = simp (c .before .before .change .given .1, c .key-up .ensures)
 
 returns-4 : tie.Need-returns-4
 unfolding stateAfter
-returns-4 c = simp (c .before .before .h2 .given .1, c .key-up2 .ensures)
+returns-4 c = simp (c .before .before .change2 .given .1, c .key-up2 .ensures)
 
 returns-5 : tie.Need-returns-5
 unfolding stateAfter
@@ -52,9 +52,9 @@ state-after-spec =
     (tie.spec
     enum-told
     enum-told-2
-    enum-known-h
+    enum-known-change
     key-up-requires
-    enum-known-h-2
+    enum-known-change-2
     key-up-requires-2
     enum-told-3
     returns

@@ -10,38 +10,38 @@ returns : tie.Need-returns
 unfolding leaves
 returns c = simp (eq-eqb _ _ (c .if1 .taken))
 
-enum-known-l : tie.Need-enum-known-l
-enum-known-l c = search needs
+enum-known-leaving : tie.Need-enum-known-leaving
+enum-known-leaving c = search needs
 
-enum-known-l-2 : tie.Need-enum-known-l-2
-enum-known-l-2 c = search needs
+enum-known-leaving-2 : tie.Need-enum-known-leaving-2
+enum-known-leaving-2 c = search needs
 
-enum-known-l-3 : tie.Need-enum-known-l-3
-enum-known-l-3 c = search needs
+enum-known-leaving-3 : tie.Need-enum-known-leaving-3
+enum-known-leaving-3 c = search needs
 
 excluded-requires : tie.Need-excluded-requires
 excluded-requires c κs = search needs
 
 returns-2 : tie.Need-returns-2
 unfolding leaves isAmong
-returns-2 c = simp (ne-eqb _ _ (c .before .before .before .if1 .left), c .before .l .given .1)
+returns-2 c = simp (ne-eqb _ _ (c .before .before .before .if1 .left), c .before .leaving .given .1)
 
 returns-3 : tie.Need-returns-3
 unfolding leaves isAmong
-returns-3 c = simp (ne-eqb _ _ (c .before .before .before .if1 .left), c .before .l2 .given .1)
+returns-3 c = simp (ne-eqb _ _ (c .before .before .before .if1 .left), c .before .leaving2 .given .1)
 
 returns-4 : tie.Need-returns-4
 unfolding leaves isAmong
-returns-4 c = simp (ne-eqb _ _ (c .before .before .before .before .if1 .left), c .before .before .l3 .given .1, c .excluded .ensures)
+returns-4 c = simp (ne-eqb _ _ (c .before .before .before .before .if1 .left), c .before .before .leaving3 .given .1, c .excluded .ensures)
 
 pub leaves-spec : {M : Type 1} → statement M
 leaves-spec =
     tie.close
     (tie.spec
     returns
-    enum-known-l
-    enum-known-l-2
-    enum-known-l-3
+    enum-known-leaving
+    enum-known-leaving-2
+    enum-known-leaving-3
     excluded-requires
     returns-2
     returns-3

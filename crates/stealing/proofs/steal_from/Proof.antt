@@ -28,7 +28,7 @@ at-most-requires c κs = search needs
 loop-holds : tie.Need-loop-holds Inv-loop μ-loop
 loop-holds c =
     let a = c .before .before in
-    (omega (arith, c .at-most .ensures .1), entries-16 (a .args .t) (a .good .1 .0), refl)
+    (omega (arith, c .at-most .ensures .1), entries-16 (a .args .table) (a .good .1 .0), refl)
 
 sub-i : tie.Need-sub-i Inv-loop μ-loop
 sub-i c = search needs
@@ -69,8 +69,8 @@ returns c =
     let m = b .before .at-most in
     let h : 0 < b .loop .i = d .before .before .before .before .loop-test .taken in
     let t = rw (d .if-else .ensures, d .before .before .less .ensures) at (sym (c .before .is-over .ensures) ∙ c .if1 .taken) in
-    rw (← (take-at-most 16 (a .t .count) (a .t .entries) (b .loop .inv .1)), ← (m .ensures .0))
-    (ap toLoser (over-yes (a .p) (counted (a .s) (a .new)) (a .t .entries) (b .loop .i) h (omega arith) _ (b .loop .inv .2) t))
+    rw (← (take-at-most 16 (a .table .count) (a .table .entries) (b .loop .inv .1)), ← (m .ensures .0))
+    (ap toLoser (over-yes (a .polyphony) (counted (a .generators) (a .channel)) (a .table .entries) (b .loop .i) h (omega arith) _ (b .loop .inv .2) t))
 
 loop-less : tie.Need-loop-less Inv-loop μ-loop
 loop-less c = search needs
@@ -82,7 +82,7 @@ loop-again c =
     let a = b .before .before .before .args in
     let h : 0 < b .loop .i = d .before .before .before .before .loop-test .taken in
     let t = rw (d .if-else .ensures, d .before .before .less .ensures) at (sym (c .before .is-over .ensures) ∙ c .if1 .left) in
-    (omega arith, b .loop .inv .1, over-no (a .p) (counted (a .s) (a .new)) (a .t .entries) (b .loop .i) h (omega arith) _ (b .loop .inv .2) t)
+    (omega arith, b .loop .inv .1, over-no (a .polyphony) (counted (a .generators) (a .channel)) (a .table .entries) (b .loop .i) h (omega arith) _ (b .loop .inv .2) t)
 
 returns-2 : tie.Need-returns-2 Inv-loop μ-loop
 unfolding stealFrom sharesFrom overShare
@@ -91,7 +91,7 @@ returns-2 c =
     let a = b .before .before .before .args in
     let m = b .before .at-most in
     let e : b .loop .i ≡ 0 = omega arith in
-    rw (← (take-at-most 16 (a .t .count) (a .t .entries) (b .loop .inv .1)), ← (m .ensures .0)) (ap toLoser (rw e at (b .loop .inv .2)))
+    rw (← (take-at-most 16 (a .table .count) (a .table .entries) (b .loop .inv .1)), ← (m .ensures .0)) (ap toLoser (rw e at (b .loop .inv .2)))
 
 pub steal-from-spec : {M : Type 1} → statement M
 steal-from-spec =

@@ -1,0 +1,40 @@
+-- `stealing::victim` meets its contract: a channel to steal from has its oldest busy generator stolen, and where there is no channel none is.
+-- Assumes nothing.
+use mathlib.Core.Path.{sym, _∙_}
+use Rattle.stealing.specs.Stealing.{victim}
+use borrow.Author.Needs.{needs}
+use Rattle.stealing.proofs.victim.Statement.{statement}
+use Rattle.stealing.proofs.victim.Tie as tie
+
+steal-from-requires : tie.Need-steal-from-requires
+steal-from-requires c κs = search needs
+
+enum-known-d : tie.Need-enum-known-d
+enum-known-d c = search needs
+
+enum-told : tie.Need-enum-told
+enum-told c = search needs
+
+returns : tie.Need-returns
+unfolding victim
+returns c = simp (sym (c .before .before .steal-from .ensures) ∙ c .enum-told .given .1)
+
+oldest-requires : tie.Need-oldest-requires
+oldest-requires c κs = search needs
+
+returns-2 : tie.Need-returns-2
+unfolding victim
+returns-2 c =
+    let b = c .before .before in
+    simp (sym (b .before .before .steal-from .ensures) ∙ b .d .given .1, c .oldest .ensures)
+
+pub victim-spec : {M : Type 1} → statement M
+victim-spec =
+    tie.close
+    (tie.spec
+    steal-from-requires
+    enum-known-d
+    enum-told
+    returns
+    oldest-requires
+    returns-2)
