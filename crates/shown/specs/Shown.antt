@@ -23,7 +23,8 @@ use Rattle.queries.specs.declared.GeneratorAnswer.the-variants.{GeneratorIs, No
 use Rattle.queries.specs.Queries.{generatorQuery, deviceMask, deviceShare}
 use Rattle.log.specs.Log.{decimal}
 use Rattle.service.specs.Page.{inTwo, inThree, standingFrom, placeField, valueField, pageOf, pageText}
-use Rattle.note_book.specs.Demand3.{Book, notesOn, after, Live, begin}
+use Rattle.note_book.specs.Book.{Book, notesOn}
+use Rattle.note_book.specs.Claim.{after, Live, begin}
 
 -- ---- the note book's page
 
