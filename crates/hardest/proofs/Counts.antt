@@ -9,7 +9,7 @@ use borrow.Author.Tests.{eqb-true, ne-eqb, lt-leb}
 use lib.Dec.{eqb, leb, ltb}
 use Rattle.loops.specs.Cases.{if_then_else_, bit}
 use Rattle.loops.specs.Passes.{total}
-use Rattle.loops.proofs.Totals.{bit-le, total-same, total-le}
+use Rattle.loops.proofs.Totals.{bit-le, total-le}
 use Rattle.splitter.specs.declared.Parser.{Parser}
 use Rattle.splitter.specs.declared.Completed.{Completed}
 use Rattle.splitter.specs.declared.Completed.the-variants as completed
@@ -23,7 +23,8 @@ use Rattle.sysex.specs.declared.Kind.{Kind}
 use Rattle.sysex.specs.declared.Kind.the-variants as kind
 use Rattle.sysex.specs.SysEx.{kindOf}
 use Rattle.playing.specs.declared.Answer.{Answer}
-use Rattle.note_book.specs.Demand3.{Slot, empty, note, isNote, freed, put, Heard, nothing, message, newTable, reset, report, isDone, exclusiveHeard, completedHeard}
+use Rattle.note_book.specs.Book.{Slot, empty, note, isNote, freed, Heard, nothing, message, newTable, reset, report, isDone, exclusiveHeard, completedHeard}
+use Rattle.note_book.proofs.Either.{either-way}
 
 -- ---- bytes in hand
 
@@ -87,13 +88,9 @@ hand-opened : (p : Parser) (b : ℕ) → inHand (opened b) ≤ inHand p + 1
 unfolding opened begun
 hand-opened p b = let h = weigh-new (if ltb b 0xF4 then b else 0) in omega arith
 
-hand-if : (x : Bool) (p q r : Parser) → inHand q ≤ inHand p + 1 → inHand r ≤ inHand p + 1 → inHand (if x then q else r) ≤ inHand p + 1
-hand-if true p q r f g = f
-hand-if false p q r f g = g
-
 hand-stored : (p : Parser) (b : ℕ) → inHand (stored p b) ≤ inHand p + 1
 unfolding stored
-hand-stored p b = hand-if (ltb (p .count) 37) p _ _ (weigh-same (p .status) (p .count + 1) (p .count)) (omega arith)
+hand-stored p b = either-way (λ (q : Parser). inHand q ≤ inHand p + 1) (ltb (p .count) 37) _ _ (weigh-same (p .status) (p .count + 1) (p .count)) (omega arith)
 
 pays-status : (p : Parser) (b : ℕ) → Pays p (statusByte p b)
 unfolding statusByte
@@ -149,23 +146,23 @@ noteOns (newTable t) = 0
 noteOns reset = 0
 noteOns (report g) = 0
 
-on-if : (x : Bool) (u v : Message) (n : ℕ) → noteOns (message u) ≤ n → noteOns (message v) ≤ n → noteOns (message (if x then u else v)) ≤ n
-on-if true u v n f g = f
-on-if false u v n f g = g
+-- at most n note-ons in a message
+abbrev Few : ℕ → Message → Type 0
+Few n m = noteOns (message m) ≤ n
 
 on-decode : (s a b : ℕ) → noteOns (message (decode s a b)) ≤ bit (eqb (s / 16) 9)
 unfolding decode
 on-decode s a b =
-    on-if (eqb (s / 16) 8) _ _ _ (omega arith)
+    either-way (Few (bit (eqb (s / 16) 9))) (eqb (s / 16) 8) _ _ (omega arith)
     (go (eqb (s / 16) 9))
   where
     rest : (n : ℕ) → noteOns (message (if eqb (s / 16) 11 then Control (channelOf s) a b else if eqb (s / 16) 12 then Program (channelOf s) a else if eqb (s / 16) 14 then Bend (channelOf s) b a else Other)) ≤ n
-    rest n = on-if (eqb (s / 16) 11) _ _ n (omega arith) (on-if (eqb (s / 16) 12) _ _ n (omega arith) (on-if (eqb (s / 16) 14) _ _ n (omega arith) (omega arith)))
+    rest n = either-way (Few n) (eqb (s / 16) 11) _ _ (omega arith) (either-way (Few n) (eqb (s / 16) 12) _ _ (omega arith) (either-way (Few n) (eqb (s / 16) 14) _ _ (omega arith) (omega arith)))
 
     go : (y : Bool)
         → noteOns (message (if y then (if eqb b 0 then NoteOff (channelOf s) a else NoteOn (channelOf s) a) else if eqb (s / 16) 11 then Control (channelOf s) a b else if eqb (s / 16) 12 then Program (channelOf s) a else if eqb (s / 16) 14 then Bend (channelOf s) b a else Other))
         ≤ bit y
-    go true = on-if (eqb b 0) _ _ 1 (omega arith) (omega arith)
+    go true = either-way (Few 1) (eqb b 0) _ _ (omega arith) (omega arith)
     go false = rest 0
 
 on-exclusive : (l : List ℕ) (k : Kind) (x : Bool) → noteOns (if x then exclusiveHeard l k else nothing) ≡ 0
@@ -193,20 +190,6 @@ freed-le f p (note d c k) = bit-le (isNote (freed f p (note d c k)))
 -- what frees notes adds none
 pub in-freed : (p : ℕ) (f : Slot → Bool) (pedal : Bool) (n : ℕ → Slot) → notesIn p (λ g. freed f pedal (n g)) ≤ notesIn p n
 in-freed p f pedal n = total-le (λ (g : ℕ). bit (isNote (freed f pedal (n g)))) (λ (g : ℕ). bit (isNote (n g))) p (λ g. freed-le f pedal (n g))
-
--- one slot anew adds one note, at most
-pub in-put : (p h : ℕ) (s : Slot) (n : ℕ → Slot) → notesIn p (put n h s) ≤ notesIn p n + bit (isNote s)
-unfolding total
-in-put zero h s n = omega arith
-in-put (suc p) h s n = go (eqb p h) refl (in-put p h s n)
-  where
-    low : p ≡ h → notesIn p (put n h s) ≡ notesIn p n
-    low e = total-same (λ (g : ℕ). bit (isNote (put n h s g))) (λ (g : ℕ). bit (isNote (n g))) p (λ g k. rw (ne-eqb g h (λ (q : g ≡ h). omega arith)))
-
-    go : (b : Bool) → eqb p h ≡ b → notesIn p (put n h s) ≤ notesIn p n + bit (isNote s)
-        → notesIn p (put n h s) + bit (isNote (if b then s else n p)) ≤ notesIn p n + bit (isNote (n p)) + bit (isNote s)
-    go true e ih = let k = low (eqb-true p h e) in omega arith
-    go false e ih = omega arith
 
 pub total-full : (t : ℕ → Bool) (p : ℕ) → ((g : ℕ) → g < p → t g ≡ true) → total (λ g. bit (t g)) p ≡ p
 unfolding total

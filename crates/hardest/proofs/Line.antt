@@ -37,7 +37,8 @@ use Rattle.allocation.specs.declared.Taken.the-variants.{Took}
 use Rattle.allocation.specs.declared.Allocated.{Allocated}
 use Rattle.allocation.specs.Allocation.{cleared, choice, allocated, noteOn}
 use Rattle.playing.specs.Playing.{replyOf}
-use Rattle.note_book.specs.Demand3.{Slot, empty, note, isNote, isOf, slotOf}
+use Rattle.note_book.specs.Book.{Slot, empty, note, isNote, isOf}
+use Rattle.note_book.specs.Claim.{slotOf}
 use Rattle.note_book.proofs.Playable.{Playable, playable-assigned, playable-silent}
 use Rattle.note_book.proofs.Pigeons.{IsListed}
 use Rattle.note_book.proofs.Choose.{Chosen, free, theft, shut, total-cut, chosen}

@@ -26,14 +26,16 @@ use Rattle.reports.specs.Reports.{reported}
 use Rattle.device.specs.Device.{freshDevice, byteTaken}
 use Rattle.events.specs.declared.Event.the-variants.{Byte}
 use Rattle.events.specs.Events.{taken}
-use Rattle.note_book.specs.Demand3.{Slot, empty, note, isNote, Book, withHolds, freshBook, isRhythm, isEnded, allFreed, put, remaining, keepNoteOn, notesAfter, keepControl, keepMessage, keepReport, Heard, message, keep, Both, Live}
+use Rattle.note_book.specs.Book.{Slot, empty, note, isNote, Book, withHolds, isDone, isRhythm, isEnded, allFreed, put, remaining, keepNoteOn, notesAfter, keepControl, keepMessage, keepReport, Heard, message, keep}
+use Rattle.note_book.specs.Claim.{Both, Live}
+use Rattle.note_book.proofs.Either.{either-way}
 use Rattle.note_book.proofs.Matches.{Matches, Outcome, masked, served, robbed, turned, note-law}
-use Rattle.note_book.proofs.Run.{IsNoNote, Right, right-nothing, right-message, right-table, right-reset, right-report, Fine, fine-next}
-use Rattle.note_book.proofs.Bytes.{lawful, fine-fresh}
+use Rattle.note_book.proofs.Run.{IsNoNote, Right, right-nothing, right-message, right-table, right-reset, right-report, count-put, Fine, fine-next}
+use Rattle.note_book.proofs.Bytes.{lawful, freshBoth, fine-fresh}
 use Rattle.song.specs.Song.{isTheft, thefts}
 use Rattle.hardest.specs.Hardest.{mostThefts, polyphonyOf, NoWorse}
 use Rattle.hardest.proofs.Starts.{every-start}
-use Rattle.hardest.proofs.Counts.{inHand, pays, noteOns, on-heard, notesIn, in-freed, in-put, total-full, in-none}
+use Rattle.hardest.proofs.Counts.{inHand, pays, noteOns, on-heard, notesIn, in-freed, total-full, in-none}
 
 -- ---- one event
 
@@ -57,26 +59,19 @@ calm-same b = record { same = refl; fewer = omega arith }
 calm-freed : (f : Slot → Bool) (p : Bool) (b : Book) → Calm b (allFreed f p b)
 calm-freed f p b = record { same = refl; fewer = in-freed (b .polyphony) f p (b .notes) }
 
-calm-if : (t : Bool) (b b′ b″ : Book) → Calm b b′ → Calm b b″ → Calm b (if t then b′ else b″)
-calm-if true b b′ b″ p q = p
-calm-if false b b′ b″ p q = q
-
 calm-holds : (b b′ : Book) (h : ℕ → ℕ) → Calm b b′ → Calm b (withHolds b′ h)
 calm-holds b b′ h t = record { same = t .same; fewer = t .fewer }
 
 calm-control : (b : Book) (c n v : ℕ) → Calm b (keepControl b c n v)
 calm-control b c n v =
     calm-holds b (notesAfter b c n v) _
-    (calm-if (liftsPedal n v) b _ _ (calm-freed _ _ b)
-    (calm-if (silencesAll n v) b _ _ (calm-freed _ _ b)
-    (calm-if (endsAll n v) b _ _ (calm-freed _ _ b) (calm-same b))))
+    (either-way (Calm b) (liftsPedal n v) _ _ (calm-freed _ _ b)
+    (either-way (Calm b) (silencesAll n v) _ _ (calm-freed _ _ b)
+    (either-way (Calm b) (endsAll n v) _ _ (calm-freed _ _ b) (calm-same b))))
 
 calm-report : (b : Book) (g : ℕ) (a : Answer) → Calm b (keepReport b g a)
-calm-report b g answer.Done = record { same = refl; fewer = let h = in-put (b .polyphony) g empty (b .notes) in omega arith }
-calm-report b g answer.Nothing = calm-same b
-calm-report b g (answer.Note x y h w) = calm-same b
-calm-report b g (answer.NoNote n x y) = calm-same b
-calm-report b g (answer.Number n) = calm-same b
+calm-report b g a =
+    either-way (Calm b) (isDone a) _ _ (record { same = refl; fewer = let h = count-put isNote (b .polyphony) g empty (b .notes) in omega arith }) (calm-same b)
 
 no-theft : {A : Type 0} (a : Answer) → isTheft a ≡ false → isTheft a ≡ true → A
 no-theft a f t = absurd (let q : _≡_ {A = Bool} false true = sym f ∙ t in let z : _≡_ {A = ℕ} 0 1 = cc in omega arith)
@@ -104,7 +99,7 @@ reported-theft i g = go (leb (i .polyphony) g) (isIdle (at (i .generators) g))
 
 added : (b : Book) (c k g : ℕ) → notesIn (b .polyphony) (put (remaining b c k) g (note false c k)) ≤ held b + 1
 added b c k g =
-    let h = in-put (b .polyphony) g (note false c k) (remaining b c k) in
+    let h = count-put isNote (b .polyphony) g (note false c k) (remaining b c k) in
     let l = in-freed (b .polyphony) (isEnded (isRhythm b c) c k) false (b .notes) in
     omega arith
 
@@ -115,11 +110,11 @@ step-on b c k a (served g w u n e) = record { same = refl; more = added b c k g;
 step-on b c k a (robbed g d u f e v) = record { same = refl; more = added b c k g; theft = λ t. (refl, total-full (λ (h : ℕ). isNote (b .notes h)) (b .polyphony) (λ h l. f h l .0)) }
 step-on b c k a (turned u f v) = of-calm b b _ _ (calm-same b) refl
 
-step : (i j : Instrument) (b : Book) (h : Heard) (a : Answer) → Right i h a j → Matches i b → Step b (keep b h a) h a
+step : (i j : Instrument) (b : Book) (h : Heard) (a : Answer) → Right i b h a j → Matches i b → Step b (keep b h a) h a
 unfolding keep keepMessage played
 step i j b h a (right-nothing x n) m = of-calm b b _ x (calm-same b) (unnamed x n)
 step i j b h a (right-message (NoteOn c k) s) m = step-on b c k _ (note-law i b m c k .outcome)
-step i j b h a (right-message (NoteOff c k) s) m = of-calm b _ _ answer.Done (calm-if (isRhythm b c) b _ _ (calm-same b) (calm-freed _ _ b)) refl
+step i j b h a (right-message (NoteOff c k) s) m = of-calm b _ _ answer.Done (either-way (Calm b) (isRhythm b c) _ _ (calm-same b) (calm-freed _ _ b)) refl
 step i j b h a (right-message (Control c n v) s) m = of-calm b _ _ answer.Done (calm-control b c n v) refl
 step i j b h a (right-message (Program c n) s) m = of-calm b b _ answer.Done (calm-same b) refl
 step i j b h a (right-message (Bend c x y) s) m = of-calm b b _ answer.Done (calm-same b) refl
@@ -130,9 +125,9 @@ step i j b h a (right-report g) m = of-calm b _ _ (reported i g .answer) (calm-r
 
 -- ---- any list of bytes
 
--- t thefts of n bytes from book b on
-abbrev Bounded : ℕ → Book → ℕ → ℕ → Type 0
-Bounded p b n t = 1 ≤ t → t + t + (p + p) + 1 ≤ n + inHand (b .parser) + (held b + held b)
+-- t thefts of n bytes from s on
+abbrev Bounded : ℕ → Both → ℕ → ℕ → Type 0
+Bounded p s n t = 1 ≤ t → t + t + (p + p) + 1 ≤ n + inHand (s .splitter) + (held (s .book) + held (s .book))
 
 -- a theft, and t more of n bytes, where w bytes are in hand and k notes held after it
 robbing : (n t p w k v m : ℕ) → (1 ≤ t → t + t + (p + p) + 1 ≤ n + w + (k + k)) → w + 2 ≤ v + 1 → 2 ≤ v → k ≤ p → m ≡ p → 1 + t + (1 + t) + (p + p) + 1 ≤ suc n + v + (m + m)
@@ -153,26 +148,26 @@ module _ (p : ℕ) (s : Both) (f : Fine Live lawful s) (x : ℕ) where
   law : Step (s .book) (keep (s .book) hears a) hears a
   law = step (s .device .instrument) (next .device .instrument) (s .book) hears a (lawful .right s (Byte x) (f .is) (f .matches)) (f .matches)
 
-  ahead : s .book .polyphony ≡ p → (n t : ℕ) → Bounded p (next .book) n t → (b : Bool) → isTheft a ≡ b → Bounded p (s .book) (suc n) (bit b + t)
+  ahead : s .book .polyphony ≡ p → (n t : ℕ) → Bounded p next n t → (b : Bool) → isTheft a ≡ b → Bounded p s (suc n) (bit b + t)
   ahead e n t ih true q h =
-      let k = pays (s .book .parser) x in
+      let k = pays (s .splitter) x in
       let k0 = k .0 in
       let k1 = k .1 in
-      let o = on-heard (s .book .id) (s .book .parser) (split (s .book .parser) x .completed) a in
+      let o = on-heard (s .book .id) (s .splitter) (split (s .splitter) x .completed) a in
       let w = law .theft q in
       let w0 = w .0 in
       let w1 = w .1 in
       let r = total-bits (λ (g : ℕ). isNote (next .book .notes g)) (next .book .polyphony) in
       let m = law .same in
-      robbing n t p (inHand (next .book .parser)) (held (next .book)) (inHand (s .book .parser)) (held (s .book)) ih (omega arith) (omega arith) (omega arith) (omega arith)
+      robbing n t p (inHand (next .splitter)) (held (next .book)) (inHand (s .splitter)) (held (s .book)) ih (omega arith) (omega arith) (omega arith) (omega arith)
   ahead e n t ih false q h =
-      let k0 = pays (s .book .parser) x .0 in
-      let o = on-heard (s .book .id) (s .book .parser) (split (s .book .parser) x .completed) a in
+      let k0 = pays (s .splitter) x .0 in
+      let o = on-heard (s .book .id) (s .splitter) (split (s .splitter) x .completed) a in
       let m = law .more in
       let i = ih (omega arith) in
       omega arith
 
-bounded : (p : ℕ) (s : Both) → Fine Live lawful s → s .book .polyphony ≡ p → (l : List ℕ) → Bounded p (s .book) (length l) (thefts (s .device) l)
+bounded : (p : ℕ) (s : Both) → Fine Live lawful s → s .book .polyphony ≡ p → (l : List ℕ) → Bounded p s (length l) (thefts (s .device) l)
 unfolding thefts taken
 bounded p s f e [] = λ h. absurd (omega arith)
 bounded p s f e (x ∷ l) =
@@ -184,9 +179,9 @@ bounded p s f e (x ∷ l) =
 
 fresh-no-worse : (p id : ℕ) → p ≤ 64 → (l : List ℕ) → thefts (freshDevice p id) l ≤ mostThefts p (length l)
 unfolding mostThefts begun
-fresh-no-worse p id hi l = go (thefts (freshDevice p id) l) (bounded p (record { device = freshDevice p id; book = freshBook p id }) (fine-fresh p id hi) refl l)
+fresh-no-worse p id hi l = go (thefts (freshDevice p id) l) (bounded p (freshBoth p id) (fine-fresh p id hi) refl l)
   where
-    go : (t : ℕ) → Bounded p (freshBook p id) (length l) t → t ≤ mostThefts p (length l)
+    go : (t : ℕ) → Bounded p (freshBoth p id) (length l) t → t ≤ mostThefts p (length l)
     go zero h = omega arith
     go (suc t) h = let k = h (omega arith) in let z = in-none p in omega arith
 

@@ -1,13 +1,13 @@
--- The order of age over a list. Invariant: the order in the record is that of the generators which note answers named, each at its last one, with those that no
--- longer sound left out. Only a note-on's assignment puts a generator last, and its answer names that generator.
+-- The order of age over a list. Invariant: the order in the record is that of the generators which note answers
+-- named, each at its last one, with those that no longer sound left out. Only a note-on's assignment puts a generator
+-- last, and its answer names that generator.
 -- Assumes nothing.
-use mathlib.Core.Path.{_≡_, refl, sym, subst}
-use mathlib.Core.Bool.{Bool, true, false, not, _&&_, _||_}
+use mathlib.Core.Path.{refl, sym, subst}
+use mathlib.Core.Bool.{Bool, true, false}
 use mathlib.Core.List.{List, [], _∷_}
 use Prim.Native.Nat.{ℕ}
-use lib.Dec.{eqb, leb}
+use lib.Dec.{leb}
 use Rattle.loops.specs.Cases.{if_then_else_}
-use Rattle.message.specs.declared.Message.{Message}
 use Rattle.message.specs.declared.Message.the-variants.{NoteOn, NoteOff, Control, Program, Bend, Other}
 use Rattle.table.specs.declared.Table.{Table}
 use Rattle.generators.specs.declared.Generators.{Generators}
@@ -28,20 +28,18 @@ use Rattle.controllers.specs.Controllers.{liftsPedal, silencesAll, endsAll}
 use Rattle.other_messages.specs.OtherMessages.{notesAfter, playNoteOff, playControl}
 use Rattle.reports.specs.Reports.{reported}
 use Rattle.exclusive.specs.Exclusive.{newTable}
-use Rattle.note_book.specs.Demand3.{Book, Heard, System, after}
+use Rattle.note_book.specs.Book.{Book, Heard}
+use Rattle.note_book.specs.Claim.{System, after}
 use Rattle.note_book.specs.Age.{named, byAnswers, AgeByAnswers}
+use Rattle.note_book.proofs.Either.{either-way}
 use Rattle.note_book.proofs.Matches.{Matches, note-law}
 use Rattle.note_book.proofs.Steps.{gives-way, way-busy}
 use Rattle.note_book.proofs.Run.{Right, right-nothing, right-message, right-table, right-reset, right-report, Lawful, Fine, fine-next}
 
-follows-if : (b : Bool) (s t : Generators) (l : List ℕ) → Follows s l → Follows t l → Follows (if b then s else t) l
-follows-if true s t l p q = p
-follows-if false s t l p q = q
-
 module _ (i : Instrument) (o : Ordered (i .generators)) (l : List ℕ) (f : Follows (i .generators) l) where
   follows-off : (c k : ℕ) → Follows (playNoteOff i c k .generators) l
-  unfolding playNoteOff of-instrument.isRhythm
-  follows-off c k = go (eqb c 10)
+  unfolding playNoteOff
+  follows-off c k = go (of-instrument.isRhythm i c)
     where
       go : (r : Bool) → Follows ((if r then i else withGenerators i (changed (change.NoteOff (of-instrument.pedalDown i c) c k) (i .generators))) .generators) l
       go true = f
@@ -50,9 +48,12 @@ module _ (i : Instrument) (o : Ordered (i .generators)) (l : List ℕ) (f : Foll
   follows-control : (c n v : ℕ) → Follows (playControl i c n v .generators) l
   unfolding playControl notesAfter
   follows-control c n v =
-      follows-if (liftsPedal n v) _ _ l (follows-changed (change.PedalUp c) (i .generators) o l f)
-      (follows-if (silencesAll n v) _ _ l (follows-silenced (leaving.Channel c) (i .generators) o l f)
-      (follows-if (endsAll n v) _ _ l (follows-changed (change.AllNotesOff _ c) (i .generators) o l f) f))
+      either-way kept (liftsPedal n v) _ _ (follows-changed (change.PedalUp c) (i .generators) o l f)
+      (either-way kept (silencesAll n v) _ _ (follows-silenced (leaving.Channel c) (i .generators) o l f)
+      (either-way kept (endsAll n v) _ _ (follows-changed (change.AllNotesOff _ c) (i .generators) o l f) f))
+    where
+      kept : Generators → Type 0
+      kept s = Follows s l
 
   follows-table : (t : Table) → Follows (newTable i t .generators) l
   unfolding newTable masked
@@ -78,18 +79,18 @@ after-reset : (p id : ℕ) (l : List ℕ) → Follows (fresh p id .generators) l
 unfolding fresh
 after-reset p id l = follows-silent l
 
-step : (i j : Instrument) (h : Heard) (a : Answer) → Right i h a j → (b : Book) → Matches i b → (l : List ℕ) → Follows (i .generators) l → Follows (j .generators) (named l a)
+step : (i j : Instrument) (b : Book) (h : Heard) (a : Answer) → Right i b h a j → Matches i b → (l : List ℕ) → Follows (i .generators) l → Follows (j .generators) (named l a)
 unfolding played withChannel
-step i j h a (right-nothing x n) b m l f = subst (Follows (i .generators)) (sym (n l)) f
-step i j h a (right-message (NoteOn c k) s) b m l f = note-law i b m c k .follows l f
-step i j h a (right-message (NoteOff c k) s) b m l f = follows-off i (m .playable .ordered) l f c k
-step i j h a (right-message (Control c n v) s) b m l f = follows-control i (m .playable .ordered) l f c n v
-step i j h a (right-message (Program c n) s) b m l f = f
-step i j h a (right-message (Bend c x y) s) b m l f = f
-step i j h a (right-message Other s) b m l f = f
-step i j h a (right-table t w) b m l f = follows-table i (m .playable .ordered) l f t
-step i j h a right-reset b m l f = after-reset (i .polyphony) (i .id) l
-step i j h a (right-report g) b m l f = follows-report i (m .playable .ordered) l f g
+step i j b h a (right-nothing x n) m l f = subst (Follows (i .generators)) (sym (n l)) f
+step i j b h a (right-message (NoteOn c k) s) m l f = note-law i b m c k .follows l f
+step i j b h a (right-message (NoteOff c k) s) m l f = follows-off i (m .playable .ordered) l f c k
+step i j b h a (right-message (Control c n v) s) m l f = follows-control i (m .playable .ordered) l f c n v
+step i j b h a (right-message (Program c n) s) m l f = f
+step i j b h a (right-message (Bend c x y) s) m l f = f
+step i j b h a (right-message Other s) m l f = f
+step i j b h a (right-table t w) m l f = follows-table i (m .playable .ordered) l f t
+step i j b h a right-reset m l f = after-reset (i .polyphony) (i .id) l
+step i j b h a (right-report g) m l f = follows-report i (m .playable .ordered) l f g
 
 module _ (S : System) (L : Lawful S) where
   by-answers : (s : S .State) → Fine S L s → (l : List ℕ) → Follows (S .instrument s .generators) l → (es : List (S .Event))
@@ -98,7 +99,7 @@ module _ (S : System) (L : Lawful S) where
   by-answers s f l q [] = q
   by-answers s f l q (e ∷ es) =
       by-answers (S .next s e) (fine-next S L s f e) (named l (S .answer s e))
-      (step (S .instrument s) (S .instrument (S .next s e)) (S .hears s e) (S .answer s e) (L .right s e (f .is) (f .matches)) (S .book s) (f .matches) l q) es
+      (step (S .instrument s) (S .instrument (S .next s e)) (S .book s) (S .hears s e) (S .answer s e) (L .right s e (f .is) (f .matches)) (f .matches) l q) es
 
   pub age-by-answers : (s : S .State) → Fine S L s → Follows (S .instrument s .generators) [] → (es : List (S .Event)) → AgeByAnswers S s es
   age-by-answers s f q es = by-answers s f [] q es

@@ -1,12 +1,13 @@
--- Steps 4 and 5 behind one law: what the choice can be, said of the notes; of the stolen generator also that it is the oldest busy one of the chosen channel.
+-- Steps 4 and 5 behind one law: what the choice can be, said of the notes; of the stolen generator also that it is
+-- the oldest busy one of the chosen channel.
 -- Assumes nothing.
 use mathlib.Core.Path.{_≡_, refl, sym, ap, _∙_, subst}
-use mathlib.Core.Bool.{Bool, true, false, not, _&&_, _||_}
+use mathlib.Core.Bool.{Bool, true, false, true≢false}
 use mathlib.Core.List.{List, [], _∷_, _++_}
 use mathlib.Core.Option.{Option, some, none}
 use Prim.Native.Nat.{ℕ, zero, suc, _+_, _≤_, _<_}
 use native.Mathlib.Omega.{arith}
-use borrow.Author.Tests.{ltb-true, ltb-false, lt-ltb, le-ltb, eqb-true, eqb-false, eq-eqb, ne-eqb}
+use borrow.Author.Tests.{ltb-true, ltb-false, eqb-true, eqb-false, eq-eqb}
 use lib.Dec.{eqb, ltb}
 use Rattle.loops.specs.Cases.{if_then_else_, bit, atMost}
 use Rattle.loops.specs.Passes.{upTo, total, firstOf, count}
@@ -21,11 +22,9 @@ use Rattle.shares.specs.declared.Share.the-variants.{Masked, Units}
 use Rattle.shares.specs.Shares.{shares, sum, lookup}
 use Rattle.ages.specs.Ages.{oldestFirst}
 use Rattle.generators.specs.declared.Generators.{Generators}
-use Rattle.generators.specs.Generators.{Generator, generator, at, isIdle, isHeld, isSustained, isReleasing, isBusyOn}
-use Rattle.candidates.specs.declared.Found.{Found}
-use Rattle.candidates.specs.declared.Found.the-variants.{At, Nothing}
-use Rattle.candidates.specs.declared.Want.{Want}
-use Rattle.candidates.specs.declared.Want.the-variants.{Releasing, BusyOn}
+use Rattle.generators.specs.Generators.{Generator, at, isIdle, isReleasing, isBusyOn}
+use Rattle.candidates.specs.declared.Found.the-variants.{At}
+use Rattle.candidates.specs.declared.Want.the-variants.{BusyOn}
 use Rattle.candidates.specs.Candidates.{found, lowestIdle, wanted, oldest, busyCount}
 use Rattle.stealing.specs.Stealing.{counted, overShare, toLoser, stealFrom, loses, victim}
 use Rattle.allocation.specs.declared.Was.{Was}
@@ -33,7 +32,8 @@ use Rattle.allocation.specs.declared.Was.the-variants.{Idle, Release, Stolen}
 use Rattle.allocation.specs.declared.Taken.{Taken}
 use Rattle.allocation.specs.declared.Taken.the-variants.{Took, Refused}
 use Rattle.allocation.specs.Allocation.{isStolen, orElse, choice}
-use Rattle.note_book.specs.Demand3.{Slot, empty, note, isNote, isOf, slotOf, notesOn}
+use Rattle.note_book.specs.Book.{Slot, empty, note, isNote, isOf, notesOn}
+use Rattle.note_book.specs.Claim.{slotOf}
 use Rattle.note_book.proofs.Sees.{Sees, Kind, kind, held, sustained, neither}
 use Rattle.note_book.proofs.Playable.{Playable}
 use Rattle.note_book.proofs.Pigeons.{IsOver, IsListed, withNew, over-some, over-same, pigeons}
@@ -159,7 +159,7 @@ module _ (p : ℕ) (n : ℕ → Slot) (s : Generators) (o : Playable p s) (e : S
     where
       go : (b : Bool) → ltb g p ≡ b → g < p
       go true t = ltb-true g p t
-      go false t = absurd (let z : _≡_ {A = Bool} true false = sym (o .above g (ltb-false g p t)) ∙ i in let y : _≡_ {A = ℕ} 0 1 = cc in omega arith)
+      go false t = absurd (true≢false (sym (o .above g (ltb-false g p t)) ∙ i))
 
   -- the device counts the notes of the book
   pub count-notes : (c : ℕ) → busyCount s c ≡ notesOn p c n

@@ -1,3 +1,4 @@
+pub mod Either
 pub mod Playable
 pub mod Sees
 pub mod Pigeons
@@ -7,4 +8,5 @@ pub mod Steps
 pub mod Run
 pub mod Age
 pub mod Bytes
+pub mod Demand3
 pub mod Witness

@@ -1,20 +1,21 @@
--- The invariant of demand 3: the book is what can be seen of the sound module, its table is well formed, and no note stands on a masked channel. Here: what a
--- change of the generators alone asks for, and the law of note-on, with what it can answer said of the book only. All that follows goes by cases on that.
+-- The invariant of demand 3: the book is what can be seen of the sound module, its table is well formed, and no note
+-- stands on a masked channel. Here: what a change of the generators alone asks for, and the law of note-on, with what
+-- it can answer said of the book only. All that follows goes by cases on that.
 -- Assumes nothing.
 use mathlib.Core.Path.{_≡_, refl, sym, ap, ap₂, _∙_, subst}
-use mathlib.Core.Bool.{Bool, true, false, not, _&&_, _||_}
+use mathlib.Core.Bool.{Bool, true, false}
 use mathlib.Core.List.{List, [], _∷_, _++_}
-use Prim.Native.Nat.{ℕ, _+_, _-_, _≤_, _<_}
+use Prim.Native.Nat.{ℕ, _≤_, _<_}
 use native.Mathlib.Omega.{arith}
+use borrow.Author.Tests.{not-false}
 use lib.Dec.{eqb}
 use lib.ListN.{length}
-use Rattle.loops.specs.Cases.{if_then_else_, bit}
+use Rattle.loops.specs.Cases.{if_then_else_}
 use Rattle.loops.specs.Passes.{filterBy}
 use Rattle.table.specs.declared.Entry.{Entry}
-use Rattle.table.specs.declared.Table.{Table}
-use Rattle.table.specs.Laws.{WellFormed, Distinct}
+use Rattle.table.specs.Laws.{WellFormed}
 use Rattle.table.specs.Table.{entriesOf, listed}
-use Rattle.shares.specs.Shares.{sharesFrom, shares, sum, lookup, isMasked}
+use Rattle.shares.specs.Shares.{sharesFrom, lookup, isMasked}
 use Rattle.shares.specs.Shares as of-table
 use Rattle.shares.proofs.Shares.{sum-from, shares-distinct, masked-unlisted}
 use Rattle.ages.specs.Ages.{otherThan}
@@ -27,8 +28,7 @@ use Rattle.age_law.proofs.Assigned.{Ordered, Follows, changed-ordered, follows-
 use Rattle.allocation.specs.declared.Was.{Was}
 use Rattle.allocation.specs.declared.Was.the-variants.{Stolen}
 use Rattle.allocation.specs.declared.Taken.{Taken}
-use Rattle.allocation.specs.declared.Taken.the-variants.{Took, Refused}
-use Rattle.allocation.specs.declared.Allocated.{Allocated}
+use Rattle.allocation.specs.declared.Taken.the-variants.{Refused}
 use Rattle.allocation.specs.Allocation.{isStolen, cleared, choice, allocated, noteOn}
 use Rattle.instrument.specs.declared.Instrument.{Instrument}
 use Rattle.instrument.specs.Instrument.{channelOf, withGenerators}
@@ -37,7 +37,8 @@ use Rattle.playing.specs.declared.Answer.{Answer}
 use Rattle.playing.specs.declared.Answer.the-variants.{Note, NoNote}
 use Rattle.playing.specs.declared.Reply.{Reply}
 use Rattle.playing.specs.Playing.{noteReply, playNoteOn}
-use Rattle.note_book.specs.Demand3.{Slot, empty, note, Book, withNotes, shareOf, isRhythm, isNote, isOf, isEnded, freed, put, remaining, keepNoteOn, IsFull, notesOn}
+use Rattle.note_book.specs.Book.{Slot, empty, note, Book, withNotes, shareOf, isRhythm, isNote, isOf, isEnded, freed, put, remaining, keepNoteOn}
+use Rattle.note_book.specs.Claim.{IsFull}
 use Rattle.note_book.specs.Age.{named}
 use Rattle.note_book.proofs.Playable.{Playable, playable-cleared, playable-assigned}
 use Rattle.note_book.proofs.Sees.{Sees, sees-cleared, sees-assigned}
@@ -109,12 +110,8 @@ stands f (note p c k) z e = (refl, go (f (note p c k)) refl e)
     go true q e = sym e
     go false q e = refl
 
-listed-unmasked : (c : ℕ) (q : List Entry) → isMasked (lookup c q) ≡ false → listed c q ≡ true
-listed-unmasked c q e = go (listed c q) (sym e ∙ masked-unlisted c q)
-  where
-    go : (b : Bool) → false ≡ not b → b ≡ true
-    go true h = refl
-    go false h = h
+pub listed-unmasked : (c : ℕ) (q : List Entry) → isMasked (lookup c q) ≡ false → listed c q ≡ true
+listed-unmasked c q e = not-false (listed c q) (sym (masked-unlisted c q) ∙ e)
 
 put-listed : (q : List Entry) (n : ℕ → Slot) (h c k : ℕ) → ((g : ℕ) → IsListed q (n g)) → listed c q ≡ true → (g : ℕ) → IsListed q (put n h (note false c k) g)
 put-listed q n h c k u l g = go (eqb g h)
@@ -134,15 +131,20 @@ pub same-share : (i : Instrument) (b : Book) → Matches i b → (c : ℕ) → o
 unfolding of-table.shareOf
 same-share i b m c = ap₂ (λ (p : ℕ) (l : List Entry). lookup c (sharesFrom p 0 l)) (m .polyphony) (m .table)
 
+-- one rhythm channel for both
+pub same-rhythm : (i : Instrument) (b : Book) → Matches i b → (c : ℕ) → of-instrument.isRhythm i c ≡ isRhythm b c
+unfolding of-instrument.isRhythm
+same-rhythm i b m c = refl
+
 pub note-law : (i : Instrument) (b : Book) → Matches i b → (c k : ℕ) → NoteLaw i b c k (playNoteOn i c k)
-unfolding playNoteOn noteOn of-instrument.isRhythm
-note-law i b m c k = go (isMasked (of-table.shareOf (i .table) (i .polyphony) c)) refl
+unfolding playNoteOn noteOn
+note-law i b m c k = rw (same-rhythm i b m c) (go (isMasked (of-table.shareOf (i .table) (i .polyphony) c)) refl)
   where
     p : ℕ
     p = b .polyphony
 
     r : Bool
-    r = eqb c 10
+    r = isRhythm b c
 
     s : Generators
     s = cleared r c k (i .generators)

@@ -1,10 +1,11 @@
--- The pigeonhole: where every generator has a note of an unmasked channel, some channel is over its share with one note more, since the shares come to at most
--- P. Sums go over the list of shares, q; a channel's number there is n of it.
+-- The pigeonhole: where every generator has a note of an unmasked channel, some channel is over its share with one
+-- note more, since the shares come to at most P. Sums go over the list of shares, q; a channel's number there is n of
+-- it.
 -- Assumes nothing.
 use mathlib.Core.Path.{_≡_, refl, sym, ap, _∙_}
-use mathlib.Core.Bool.{Bool, true, false, not, _||_}
+use mathlib.Core.Bool.{Bool, true, false, _||_, true≢false, false≢true}
 use mathlib.Core.List.{List, [], _∷_}
-use mathlib.Core.Option.{Option, some, none}
+use mathlib.Core.Option.{Option, some, none, Option·some-ne-none, Option·none-ne-some}
 use Prim.Native.Nat.{ℕ, zero, suc, _+_, _≤_, _<_}
 use native.Mathlib.Omega.{arith}
 use borrow.Author.Tests.{ltb-true, ltb-false, eqb-true, eqb-false, eq-eqb, ne-eqb}
@@ -18,7 +19,7 @@ use Rattle.shares.specs.declared.Share.{Share}
 use Rattle.shares.specs.declared.Share.the-variants.{Masked, Units}
 use Rattle.shares.specs.Shares.{sum, lookup}
 use Rattle.stealing.specs.Stealing.{otherwise, overShare}
-use Rattle.note_book.specs.Demand3.{Slot, empty, note, isOf, isNote, notesOn}
+use Rattle.note_book.specs.Book.{Slot, empty, note, isOf, isNote, notesOn}
 
 abbrev sumBy : (ℕ → ℕ) → List Entry → ℕ
 sumBy n [] = 0
@@ -38,8 +39,8 @@ none-le n (x ∷ q) e = go (overShare n q) refl (ltb (x .value) (n (x .channel))
   where
     go : (o : Option ℕ) → overShare n q ≡ o → (b : Bool) → ltb (x .value) (n (x .channel)) ≡ b → otherwise o (if b then some (x .channel) else none) ≡ none
         → (overShare n q ≡ none → sumBy n q ≤ sum q) → n (x .channel) + sumBy n q ≤ x .value + sum q
-    go (some d) eo b eb e ih = absurd (let z : _≡_ {A = ℕ} 0 1 = cc in omega arith)
-    go none eo true eb e ih = absurd (let z : _≡_ {A = ℕ} 0 1 = cc in omega arith)
+    go (some d) eo b eb e ih = absurd (Option·some-ne-none d e)
+    go none eo true eb e ih = absurd (Option·some-ne-none (x .channel) e)
     go none eo false eb e ih = let k = ih eo in omega (arith, ltb-false (x .value) (n (x .channel)) eb)
 
 unlisted-masked : (d : ℕ) (q : List Entry) (m : ℕ) → listed d q ≡ false → IsOver (lookup d q) m → ⊥
@@ -48,13 +49,13 @@ unlisted-masked d [] m u h = h
 unlisted-masked d (x ∷ q) m u h = go (eqb d (x .channel)) u h (unlisted-masked d q m)
   where
     go : (b : Bool) → b || listed d q ≡ false → IsOver (if b then Units (x .value) else lookup d q) m → (listed d q ≡ false → IsOver (lookup d q) m → ⊥) → ⊥
-    go true u h ih = let z : _≡_ {A = ℕ} 0 1 = cc in omega arith
+    go true u h ih = true≢false u
     go false u h ih = ih u h
 
 -- the chosen channel is over its share, for no channel is listed twice
 pub over-some : (n : ℕ → ℕ) (q : List Entry) (d : ℕ) → Distinct q → overShare n q ≡ some d → IsOver (lookup d q) (n d)
 unfolding overShare lookup
-over-some n [] d u e = absurd (let z : _≡_ {A = ℕ} 0 1 = cc in omega arith)
+over-some n [] d u e = absurd (Option·none-ne-some d e)
 over-some n (x ∷ q) d u e = go (overShare n q) refl (ltb (x .value) (n (x .channel))) refl e (over-some n q d (u .1))
   where
     here : x .channel ≡ d → x .value < n (x .channel) → IsOver (if eqb d (x .channel) then Units (x .value) else lookup d q) (n d)
@@ -68,7 +69,7 @@ over-some n (x ∷ q) d u e = go (overShare n q) refl (ltb (x .value) (n (x .cha
         → (overShare n q ≡ some d → IsOver (lookup d q) (n d)) → IsOver (if eqb d (x .channel) then Units (x .value) else lookup d q) (n d)
     go (some y) eo b eb e ih = there (eqb d (x .channel)) refl (ih (eo ∙ e))
     go none eo true eb e ih = here (cc) (ltb-true (x .value) (n (x .channel)) eb)
-    go none eo false eb e ih = absurd (let z : _≡_ {A = ℕ} 0 1 = cc in omega arith)
+    go none eo false eb e ih = absurd (Option·none-ne-some d e)
 
 pub over-same : (m n : ℕ → ℕ) (q : List Entry) → ((d : ℕ) → m d ≡ n d) → overShare m q ≡ overShare n q
 unfolding overShare
@@ -105,7 +106,7 @@ flip a b = go (eqb b a) refl
 
 listed-sum : (c : ℕ) (q : List Entry) → listed c q ≡ true → 1 ≤ sumBy (λ d. bit (eqb c d)) q
 unfolding listed
-listed-sum c [] e = absurd (let z : _≡_ {A = ℕ} 0 1 = cc in omega arith)
+listed-sum c [] e = absurd (false≢true e)
 listed-sum c (x ∷ q) e = go (eqb c (x .channel)) e (listed-sum c q)
   where
     go : (b : Bool) → b || listed c q ≡ true → (listed c q ≡ true → 1 ≤ sumBy (λ d. bit (eqb c d)) q) → 1 ≤ bit b + sumBy (λ d. bit (eqb c d)) q
@@ -120,7 +121,7 @@ IsListed q empty = Unit {0}
 IsListed q (note p c k) = listed c q ≡ true
 
 slot-sum : (q : List Entry) (x : Slot) → isNote x ≡ true → IsListed q x → 1 ≤ sumBy (λ d. bit (isOf d x)) q
-slot-sum q empty e h = absurd (let z : _≡_ {A = ℕ} 0 1 = cc in omega arith)
+slot-sum q empty e h = absurd (false≢true e)
 slot-sum q (note p c k) e h = listed-sum c q h
 
 -- the notes of channel d, a new one of channel c counted

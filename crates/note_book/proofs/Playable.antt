@@ -1,11 +1,11 @@
--- What holds of the generators of a device of polyphony p at all times: the order of age is well formed, each generator is in one of the four states, and none
--- from p on sounds. Each act keeps it.
+-- What holds of the generators of a device of polyphony p at all times: the order of age is well formed, each
+-- generator is in one of the four states, and none from p on sounds. Each act keeps it.
 -- Assumes nothing.
 use mathlib.Core.Path.{_≡_, refl, sym, ap, _∙_, subst}
-use mathlib.Core.Bool.{Bool, true, false, not, _&&_, _||_}
+use mathlib.Core.Bool.{Bool, true, false, true≢false}
 use Prim.Native.Nat.{ℕ, _≤_, _<_}
 use native.Mathlib.Omega.{arith}
-use borrow.Author.Tests.{eqb-true, eqb-false, eq-eqb, ne-eqb}
+use borrow.Author.Tests.{eqb-true, ne-eqb}
 use lib.Dec.{eqb}
 use Rattle.loops.specs.Cases.{if_then_else_}
 use Rattle.loops.proofs.Padded.{blank}
@@ -49,7 +49,7 @@ playable-restated p s o t n busy z h =
     state g false = o .states g
 
     idle : (g : ℕ) → p ≤ g → (b : Bool) → t (at s g) ≡ b → isIdle (if b then generator n (at s g .channel) (at s g .key) else at s g) ≡ true
-    idle g k true e = absurd (let q : _≡_ {A = Bool} true false = sym (busy (at s g) e) ∙ idle-busy (at s g) (o .above g k) in let y : _≡_ {A = ℕ} 0 1 = cc in omega arith)
+    idle g k true e = absurd (true≢false (sym (busy (at s g) e) ∙ idle-busy (at s g) (o .above g k)))
     idle g k false e = o .above g k
 
 up-state : (p : Bool) → keyUp p ≤ 3

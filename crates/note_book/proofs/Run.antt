@@ -1,38 +1,37 @@
--- The three claims of demand 3 about a list, for any system of events that comes down to messages, tables, resets and reports (`Lawful`). In a run the channel
--- that keeps within its share goes on doing so: only its own note-ons add to its notes, and each is counted before it is answered.
+-- The three claims of demand 3 about a list, for any system of events that comes down to messages, tables, resets and
+-- reports (`Lawful`). In a run the channel that keeps within its share goes on doing so: only its own note-ons add to
+-- its notes, and each is counted before it is answered.
 -- Assumes nothing.
 use mathlib.Core.Path.{_≡_, refl, sym, ap, _∙_, subst}
-use mathlib.Core.Bool.{Bool, true, false, not, _&&_, _||_}
-use mathlib.Core.List.{List, [], _∷_, _++_}
-use Prim.Native.Nat.{ℕ, zero, suc, _+_, _≤_, _<_}
+use mathlib.Core.Bool.{Bool, true, false, not, false≢true}
+use mathlib.Core.List.{List, [], _∷_}
+use Prim.Native.Nat.{ℕ, zero, suc, _+_, _≤_}
 use native.Mathlib.Omega.{arith}
 use borrow.Author.Tests.{eqb-true, eq-eqb, ne-eqb}
 use lib.Dec.{eqb}
 use Rattle.loops.specs.Cases.{if_then_else_, bit}
 use Rattle.loops.specs.Passes.{total}
 use Rattle.loops.proofs.Totals.{total-same, total-le}
-use Rattle.splitter.specs.declared.Parser.{Parser}
 use Rattle.message.specs.declared.Message.{Message}
 use Rattle.message.specs.declared.Message.the-variants.{NoteOn, NoteOff, Control, Program, Bend, Other}
-use Rattle.table.specs.declared.Entry.{Entry}
 use Rattle.table.specs.declared.Table.{Table}
 use Rattle.table.specs.Laws.{WellFormed}
 use Rattle.table.specs.Table.{entriesOf}
 use Rattle.shares.specs.declared.Share.{Share}
 use Rattle.shares.specs.declared.Share.the-variants.{Masked, Units}
 use Rattle.shares.specs.Shares.{isMasked}
-use Rattle.allocation.specs.declared.Was.the-variants.{Stolen}
 use Rattle.instrument.specs.declared.Instrument.{Instrument}
 use Rattle.instrument.specs.Instrument.{fresh}
 use Rattle.playing.specs.declared.Answer.{Answer}
-use Rattle.playing.specs.declared.Answer.the-variants.{Nothing, Done, Note, NoNote, Number}
+use Rattle.playing.specs.declared.Answer.the-variants.{Done}
 use Rattle.playing.specs.Playing.{played}
 use Rattle.controllers.specs.Controllers.{liftsPedal, silencesAll, endsAll}
 use Rattle.reports.specs.Reports.{reported}
 use Rattle.exclusive.specs.Exclusive as of-exclusive
-use Rattle.note_book.specs.Demand3.{Slot, empty, note, Book, withParser, shareOf, isRhythm, isNote, isOf, isEnded, freed, allFreed, put, withHolds, remaining, keepNoteOn, keepNoteOff, notesAfter, keepControl, keepMessage, keepTable, keepReport, Heard, nothing, message, newTable, reset, report, keep}
-use Rattle.note_book.specs.Demand3.{notesOn, countAt, IsWithin, stolenNote, isLoss, IsFull, isServed, Fair, Keeps, Safe, AtNoteOn, IsInRun, System, after, IsExact, Always, Each, IsRun, StaysWithin, Demand3}
+use Rattle.note_book.specs.Book.{Slot, empty, note, Book, isDone, shareOf, isRhythm, isOf, isEnded, freed, allFreed, put, withHolds, remaining, keepNoteOn, notesAfter, keepControl, keepMessage, keepReport, Heard, nothing, message, newTable, reset, report, keep, notesOn, countAt}
+use Rattle.note_book.specs.Claim.{IsWithin, isLoss, IsFull, Fair, Keeps, Safe, AtNoteOn, IsInRun, System, after, IsExact, Always, Each, IsRun, Demand3}
 use Rattle.note_book.specs.Age.{named}
+use Rattle.note_book.proofs.Either.{either-way}
 use Rattle.note_book.proofs.Pigeons.{IsOver, flip, withNew}
 use Rattle.note_book.proofs.Matches.{Matches, Outcome, masked, served, robbed, turned, note-law}
 use Rattle.note_book.proofs.Steps.{IsSent, step-message, step-table, step-report, step-reset}
@@ -43,14 +42,14 @@ use Rattle.note_book.proofs.Steps.{IsSent, step-message, step-table, st
 abbrev pub IsNoNote : Answer → Type 0
 IsNoNote a = (l : List ℕ) → named l a ≡ l
 
-pub data Right (i : Instrument) : Heard → Answer → Instrument → Type 0 where
-  right-nothing : (a : Answer) → IsNoNote a → Right i nothing a i
-  right-message : (m : Message) → IsSent m → Right i (message m) (played i m .answer) (played i m .instrument)
-  right-table : (t : Table) → WellFormed (entriesOf t) → Right i (newTable (entriesOf t)) Done (of-exclusive.newTable i t)
-  right-reset : Right i reset Done (fresh (i .polyphony) (i .id))
-  right-report : (g : ℕ) → Right i (report g) (reported i g .answer) (reported i g .instrument)
+pub data Right (i : Instrument) (b : Book) : Heard → Answer → Instrument → Type 0 where
+  right-nothing : (a : Answer) → IsNoNote a → Right i b nothing a i
+  right-message : (m : Message) → IsSent m → Right i b (message m) (played i m .answer) (played i m .instrument)
+  right-table : (t : Table) → WellFormed (entriesOf t) → Right i b (newTable (entriesOf t)) Done (of-exclusive.newTable i t)
+  right-reset : Right i b reset Done (fresh (i .polyphony) (i .id))
+  right-report : (g : ℕ) → Right i b (report g) (reported i g .answer) (reported i g .instrument)
 
-step : (i j : Instrument) (b : Book) (h : Heard) (a : Answer) → Right i h a j → Matches i b → Matches j (keep b h a)
+step : (i j : Instrument) (b : Book) (h : Heard) (a : Answer) → Right i b h a j → Matches i b → Matches j (keep b h a)
 unfolding keep
 step i j b h a (right-nothing x n) m = m
 step i j b h a (right-message x s) m = step-message i b m x s
@@ -73,18 +72,18 @@ freed-le x f p (note d c k) = go (f (note d c k)) p
 notes-freed : (p x : ℕ) (f : Slot → Bool) (pedal : Bool) (n : ℕ → Slot) → notesOn p x (λ g. freed f pedal (n g)) ≤ notesOn p x n
 notes-freed p x f pedal n = total-le (λ (g : ℕ). bit (isOf x (freed f pedal (n g)))) (λ (g : ℕ). bit (isOf x (n g))) p (λ g. freed-le x f pedal (n g))
 
--- one slot anew adds its own note at the most
-notes-put : (p x h : ℕ) (s : Slot) (n : ℕ → Slot) → notesOn p x (put n h s) ≤ notesOn p x n + bit (isOf x s)
+-- one slot anew adds its own note at the most, whichever notes count
+pub count-put : (t : Slot → Bool) (p h : ℕ) (s : Slot) (n : ℕ → Slot) → total (λ g. bit (t (put n h s g))) p ≤ total (λ g. bit (t (n g))) p + bit (t s)
 unfolding total
-notes-put zero x h s n = omega arith
-notes-put (suc p) x h s n = go (eqb p h) refl (notes-put p x h s n)
+count-put t zero h s n = omega arith
+count-put t (suc p) h s n = go (eqb p h) refl (count-put t p h s n)
   where
     -- the places before h are as they were
-    low : p ≡ h → notesOn p x (put n h s) ≡ notesOn p x n
-    low e = total-same (λ (g : ℕ). bit (isOf x (put n h s g))) (λ (g : ℕ). bit (isOf x (n g))) p (λ g k. rw (ne-eqb g h (λ (q : g ≡ h). omega arith)))
+    low : p ≡ h → total (λ g. bit (t (put n h s g))) p ≡ total (λ g. bit (t (n g))) p
+    low e = total-same (λ (g : ℕ). bit (t (put n h s g))) (λ (g : ℕ). bit (t (n g))) p (λ g k. rw (ne-eqb g h (λ (q : g ≡ h). omega arith)))
 
-    go : (b : Bool) → eqb p h ≡ b → notesOn p x (put n h s) ≤ notesOn p x n + bit (isOf x s)
-        → notesOn p x (put n h s) + bit (isOf x (if b then s else n p)) ≤ notesOn p x n + bit (isOf x (n p)) + bit (isOf x s)
+    go : (b : Bool) → eqb p h ≡ b → total (λ g. bit (t (put n h s g))) p ≤ total (λ g. bit (t (n g))) p + bit (t s)
+        → total (λ g. bit (t (put n h s g))) p + bit (t (if b then s else n p)) ≤ total (λ g. bit (t (n g))) p + bit (t (n p)) + bit (t s)
     go true e ih = let k = low (eqb-true p h e) in omega arith
     go false e ih = omega arith
 
@@ -100,32 +99,27 @@ tame-same b = record { same-polyphony = refl; same-table = refl; fewer = λ x. o
 tame-freed : (f : Slot → Bool) (p : Bool) (b : Book) → Tamer b (allFreed f p b)
 tame-freed f p b = record { same-polyphony = refl; same-table = refl; fewer = λ x. notes-freed (b .polyphony) x f p (b .notes) }
 
-tame-if : (t : Bool) (b b′ b″ : Book) → Tamer b b′ → Tamer b b″ → Tamer b (if t then b′ else b″)
-tame-if true b b′ b″ p q = p
-tame-if false b b′ b″ p q = q
-
 tame-holds : (b b′ : Book) (h : ℕ → ℕ) → Tamer b b′ → Tamer b (withHolds b′ h)
 tame-holds b b′ h t = record { same-polyphony = t .same-polyphony; same-table = t .same-table; fewer = t .fewer }
 
 tame-report : (b : Book) (g : ℕ) (a : Answer) → Tamer b (keepReport b g a)
-tame-report b g Done = record { same-polyphony = refl; same-table = refl; fewer = λ x. let h = notes-put (b .polyphony) x g empty (b .notes) in omega arith }
-tame-report b g Nothing = tame-same b
-tame-report b g (Note c k h w) = tame-same b
-tame-report b g (NoNote n c k) = tame-same b
-tame-report b g (Number n) = tame-same b
+tame-report b g a =
+    either-way (Tamer b) (isDone a) _ _
+    (record { same-polyphony = refl; same-table = refl; fewer = λ x. let h = count-put (isOf x) (b .polyphony) g empty (b .notes) in omega arith })
+    (tame-same b)
 
 tame-control : (b : Book) (c n v : ℕ) → Tamer b (keepControl b c n v)
 tame-control b c n v =
     tame-holds b (notesAfter b c n v) _
-    (tame-if (liftsPedal n v) b _ _ (tame-freed _ _ b)
-    (tame-if (silencesAll n v) b _ _ (tame-freed _ _ b)
-    (tame-if (endsAll n v) b _ _ (tame-freed _ _ b) (tame-same b))))
+    (either-way (Tamer b) (liftsPedal n v) _ _ (tame-freed _ _ b)
+    (either-way (Tamer b) (silencesAll n v) _ _ (tame-freed _ _ b)
+    (either-way (Tamer b) (endsAll n v) _ _ (tame-freed _ _ b) (tame-same b))))
 
 -- ---- the claims at a note-on
 
 fair-on : (b : Book) (c k : ℕ) (a : Answer) → Outcome b c k a → isLoss b c k a ≡ true → IsFull b c k
-fair-on b c k a (masked e) h = absurd (let y : isLoss b c k (NoNote 10 c k) ≡ false = ap not e in let z : _≡_ {A = ℕ} 0 1 = cc in omega arith)
-fair-on b c k a (served g w u n e) h = absurd (let y : false || isNote empty ≡ true = rw (n, e) at h in let z : _≡_ {A = ℕ} 0 1 = cc in omega arith)
+fair-on b c k a (masked e) h = absurd (false≢true (sym (ap not e) ∙ h))
+fair-on b c k a (served g w u n e) h = absurd (false≢true (rw (n, e) at h))
 fair-on b c k a (robbed g d u f e v) h = f
 fair-on b c k a (turned u f v) h = f
 
@@ -140,10 +134,10 @@ within-less (Units u) m n l h = omega arith
 
 within-unmasked : (x : Share) (m : ℕ) → IsWithin x m → isMasked x ≡ true → ⊥
 within-unmasked Masked m h e = h
-within-unmasked (Units u) m h e = let z : _≡_ {A = ℕ} 0 1 = cc in omega arith
+within-unmasked (Units u) m h e = false≢true e
 
 same-channel : (c d : ℕ) (s : Slot) → isOf c s ≡ true → isOf d s ≡ true → c ≡ d
-same-channel c d empty e f = absurd (let z : _≡_ {A = ℕ} 0 1 = cc in omega arith)
+same-channel c d empty e f = absurd (false≢true e)
 same-channel c d (note p x j) e f = sym (eqb-true x c e) ∙ eqb-true x d f
 
 -- channel c keeps within its share, and a note-on of channel d comes
@@ -176,7 +170,7 @@ module _ (b : Book) (c d k : ℕ) (w : IsWithin (shareOf b c) (notesOn (b .polyp
   -- the new note is in the book, and the channel still within its share
   held-on : (g : ℕ) → IsWithin (shareOf b c) (notesOn (b .polyphony) c (put (remaining b d k) g (note false d k)))
   held-on g =
-      let i = notes-put (b .polyphony) c g (note false d k) (remaining b d k) in
+      let i = count-put (isOf c) (b .polyphony) g (note false d k) (remaining b d k) in
       let e = flip d c in
       within-less (shareOf b c) (withNew (b .polyphony) (remaining b d k) d c) _ (subst (λ (x : Bool). notesOn (b .polyphony) c (put (remaining b d k) g (note false d k)) ≤ notesOn (b .polyphony) c (remaining b d k) + bit x) e i) asked
 
@@ -194,16 +188,16 @@ within-tame c b b′ t w = rw (t .same-polyphony, t .same-table) (within-less (s
 abbrev Within : ℕ → Book → Type 0
 Within c b = IsWithin (shareOf b c) (notesOn (b .polyphony) c (b .notes))
 
-outcome-of : (i j : Instrument) (b : Book) → Matches i b → (c k : ℕ) (a : Answer) → Right i (message (NoteOn c k)) a j → Outcome b c k a
+outcome-of : (i j : Instrument) (b : Book) → Matches i b → (c k : ℕ) (a : Answer) → Right i b (message (NoteOn c k)) a j → Outcome b c k a
 unfolding played
 outcome-of i j b m c k a (right-message x s) = note-law i b m c k .outcome
 
 module _ (i j : Instrument) (b : Book) (m : Matches i b) where
-  within-heard : (c : ℕ) (h : Heard) (a : Answer) → Right i h a j → IsInRun h → Within c b → AtNoteOn (Keeps c b a) h → Within c (keep b h a)
+  within-heard : (c : ℕ) (h : Heard) (a : Answer) → Right i b h a j → IsInRun h → Within c b → AtNoteOn (Keeps c b a) h → Within c (keep b h a)
   unfolding keep keepMessage
   within-heard c nothing a r n w k = w
   within-heard c (message (NoteOn d x)) a r n w k = within-on b c d x w k a (outcome-of i j b m d x a r)
-  within-heard c (message (NoteOff d x)) a r n w k = within-tame c b _ (tame-if (isRhythm b d) b _ _ (tame-same b) (tame-freed _ _ b)) w
+  within-heard c (message (NoteOff d x)) a r n w k = within-tame c b _ (either-way (Tamer b) (isRhythm b d) _ _ (tame-same b) (tame-freed _ _ b)) w
   within-heard c (message (Control d x v)) a r n w k = within-tame c b _ (tame-control b d x v) w
   within-heard c (message (Program d x)) a r n w k = w
   within-heard c (message (Bend d x y)) a r n w k = w
@@ -225,35 +219,20 @@ module _ (i j : Instrument) (b : Book) (m : Matches i b) where
   at-note-ons F reset f = tt
   at-note-ons F (report g) f = tt
 
-  fair-heard : (h : Heard) (a : Answer) → Right i h a j → AtNoteOn (Fair b a) h
-  fair-heard h a r = at-note-ons (Fair b a) h (λ c k e. fair-on b c k a (outcome-of i j b m c k a (subst (λ (x : Heard). Right i x a j) e r)))
+  fair-heard : (h : Heard) (a : Answer) → Right i b h a j → AtNoteOn (Fair b a) h
+  fair-heard h a r = at-note-ons (Fair b a) h (λ c k e. fair-on b c k a (outcome-of i j b m c k a (subst (λ (x : Heard). Right i b x a j) e r)))
 
-  safe-heard : (c : ℕ) (h : Heard) (a : Answer) → Right i h a j → Within c b → AtNoteOn (Keeps c b a) h → AtNoteOn (Safe c b a) h
+  safe-heard : (c : ℕ) (h : Heard) (a : Answer) → Right i b h a j → Within c b → AtNoteOn (Keeps c b a) h → AtNoteOn (Safe c b a) h
   safe-heard c h a r w k =
-      at-note-ons (Safe c b a) h (λ d x e. safe-on b c d x w (subst (AtNoteOn (Keeps c b a)) e k) a (outcome-of i j b m d x a (subst (λ (y : Heard). Right i y a j) e r)))
+      at-note-ons (Safe c b a) h (λ d x e. safe-on b c d x w (subst (AtNoteOn (Keeps c b a)) e k) a (outcome-of i j b m d x a (subst (λ (y : Heard). Right i b y a j) e r)))
 
 -- ---- the list
 
 pub record Lawful (S : System) : Type 1 where
   pub Ready : S .State → Type 0
   pub ready : (s : S .State) (e : S .Event) → Ready s → Matches (S .instrument s) (S .book s) → Ready (S .next s e)
-  pub right : (s : S .State) (e : S .Event) → Ready s → Matches (S .instrument s) (S .book s) → Right (S .instrument s) (S .hears s e) (S .answer s e) (S .instrument (S .next s e))
-  pub parser : S .State → S .Event → Parser
-  pub books : (s : S .State) (e : S .Event) → S .book (S .next s e) ≡ withParser (keep (S .book s) (S .hears s e) (S .answer s e)) (parser s e)
-
-matches-parser : (i : Instrument) (b : Book) (p : Parser) → Matches i b → Matches i (withParser b p)
-matches-parser i b p m =
-    record {
-      polyphony = m .polyphony;
-      id = m .id;
-      table = m .table;
-      sixteen = m .sixteen;
-      holds = m .holds;
-      playable = m .playable;
-      notes = m .notes;
-      well-formed = m .well-formed;
-      unmasked = m .unmasked;
-    }
+  pub right : (s : S .State) (e : S .Event) → Ready s → Matches (S .instrument s) (S .book s) → Right (S .instrument s) (S .book s) (S .hears s e) (S .answer s e) (S .instrument (S .next s e))
+  pub books : (s : S .State) (e : S .Event) → S .book (S .next s e) ≡ keep (S .book s) (S .hears s e) (S .answer s e)
 
 module _ (S : System) (L : Lawful S) where
   pub record Fine (s : S .State) : Type 0 where
@@ -265,7 +244,7 @@ module _ (S : System) (L : Lawful S) where
       record {
         is = L .ready s e (f .is) (f .matches);
         matches = subst (Matches (S .instrument (S .next s e))) (sym (L .books s e))
-            (matches-parser _ _ (L .parser s e) (step (S .instrument s) (S .instrument (S .next s e)) (S .book s) (S .hears s e) (S .answer s e) (L .right s e (f .is) (f .matches)) (f .matches)));
+            (step (S .instrument s) (S .instrument (S .next s e)) (S .book s) (S .hears s e) (S .answer s e) (L .right s e (f .is) (f .matches)) (f .matches));
       }
 
   exact-now : (s : S .State) → Fine s → IsExact S s
@@ -296,8 +275,8 @@ module _ (S : System) (L : Lawful S) where
   fine-after s f [] = f
   fine-after s f (e ∷ l) = fine-after (S .next s e) (fine-next s f e) l
 
-  pub demand3 : (s : S .State) → Fine s → (l : List (S .Event)) → Demand3 S s l
-  demand3 s f l =
+  pub lawful-demand-3 : (s : S .State) → Fine s → (l : List (S .Event)) → Demand3 S s l
+  lawful-demand-3 s f l =
       record {
         exact = run-exact s f l;
         fair = run-fair s f l;

@@ -1,26 +1,26 @@
--- The notes of the book are what can be seen of the generators: what an act does to a generator, the book does to its slot.
+-- The notes of the book are what can be seen of the generators: what an act does to a generator, the book does to its
+-- slot.
 -- Assumes nothing.
 use mathlib.Core.Path.{_≡_, refl, sym, ap, _∙_}
 use mathlib.Core.Bool.{Bool, true, false, not, _&&_, _||_}
-use Prim.Native.Nat.{ℕ, _≤_, _<_}
-use native.Mathlib.Omega.{arith}
+use Prim.Native.Nat.{ℕ, _<_}
 use borrow.Author.Tests.{eqb-true}
 use lib.Dec.{eqb}
 use Rattle.loops.specs.Cases.{if_then_else_}
 use Rattle.drums.specs.Drums.{excludes}
 use Rattle.generators.specs.declared.Generators.{Generators}
-use Rattle.generators.specs.Generators.{Generator, generator, at, isHeld, isSustained, isBusy, isBusyOn, isSounding, isOn, isIdle, assigned, silent}
+use Rattle.generators.specs.Generators.{Generator, generator, at, isBusy, isSounding, isIdle, assigned, silent}
 use Rattle.releases.specs.declared.Change.{Change}
 use Rattle.releases.specs.declared.Change.the-variants.{ReleaseNote, ReleaseChannel, NoteOff, AllNotesOff, PedalUp}
 use Rattle.releases.specs.Releases.{changes, keyUp, stateAfter, changed}
-use Rattle.silence.specs.declared.Leaving.{Leaving}
 use Rattle.silence.specs.declared.Leaving.the-variants.{One, Channel, Group}
-use Rattle.silence.specs.Silence.{isAmong, leaves, goes, silenced}
+use Rattle.silence.specs.Silence.{isAmong, leaves, silenced}
 use Rattle.age_law.proofs.At.{Sized, restated, restated-at, silenced-at, assigned-at}
 use Rattle.age_law.proofs.Assigned.{Ordered, change-busy, changed-ordered}
 use Rattle.loops.proofs.Padded.{blank}
 use Rattle.allocation.specs.Allocation.{cleared}
-use Rattle.note_book.specs.Demand3.{Slot, empty, note, isDown, isOnPedal, isOf, isOfKey, isEnded, freed, put, slotOf}
+use Rattle.note_book.specs.Book.{Slot, empty, note, isDown, isOnPedal, isOf, isOfKey, isEnded, freed, put}
+use Rattle.note_book.specs.Claim.{slotOf}
 
 -- the notes n are those of the generators s
 abbrev pub Sees : (ℕ → Slot) → Generators → Type 0

@@ -1,23 +1,23 @@
--- The invariant through every other message, through a new table, a reset and a report: what the sound module does, the book does.
+-- The invariant through every other message, through a new table, a reset and a report: what the sound module does,
+-- the book does.
 -- Assumes nothing.
 use mathlib.Core.Path.{_≡_, refl, sym, ap, ap₂, _∙_, subst}
-use mathlib.Core.Bool.{Bool, true, false, not, _&&_, _||_}
-use mathlib.Core.List.{List, [], _∷_, map}
-use Prim.Native.Nat.{ℕ, _+_, _-_, _≤_, _<_}
+use mathlib.Core.Bool.{Bool, true, false, not, _&&_, _||_, false≢true}
+use mathlib.Core.List.{List, [], _∷_}
+use Prim.Native.Nat.{ℕ, _-_, _≤_}
 use native.Mathlib.Omega.{arith}
 use borrow.Author.Tests.{eqb-true, eqb-false, eq-eqb, ne-eqb, le-leb, ltb-true, ltb-false}
 use lib.Dec.{eqb, leb, ltb}
-use lib.ListN.{length, getD, set, replicate, length-set, getD-replicate, List·getD-eq-default}
+use lib.ListN.{getD, set, replicate, length-set, getD-replicate, List·getD-eq-default}
 use lib.Seq.{getD-set-same, getD-set-other}
-use Rattle.loops.specs.Cases.{if_then_else_, bit}
+use Rattle.loops.specs.Cases.{if_then_else_}
 use Rattle.message.specs.declared.Message.{Message}
 use Rattle.message.specs.declared.Message.the-variants.{NoteOn, NoteOff, Control, Program, Bend, Other}
 use Rattle.table.specs.declared.Entry.{Entry}
 use Rattle.table.specs.declared.Table.{Table}
 use Rattle.table.specs.Laws.{WellFormed, Channels}
-use Rattle.table.specs.Table.{entry, entriesOf, listed, startOrder, startTable}
+use Rattle.table.specs.Table.{entriesOf, listed}
 use Rattle.table.proofs.Start.{start-entries, start-well-formed}
-use Rattle.shares.specs.declared.Share.{Share}
 use Rattle.shares.specs.Shares.{sharesFrom, lookup, isMasked, isChannel}
 use Rattle.shares.specs.Shares as of-table
 use Rattle.shares.proofs.Shares.{masked-unlisted, shares-channels}
@@ -26,7 +26,7 @@ use Rattle.channels.specs.Channel.{withProgram, withBend}
 use Rattle.channels.specs.Channel as of-channel
 use Rattle.controllers.specs.Controllers.{reset, stored, controlled, liftsPedal, silencesAll, endsAll}
 use Rattle.generators.specs.declared.Generators.{Generators}
-use Rattle.generators.specs.Generators.{Generator, generator, at, isIdle, isBusy, silent}
+use Rattle.generators.specs.Generators.{Generator, generator, at, isIdle, isBusy}
 use Rattle.releases.specs.declared.Change.{Change}
 use Rattle.releases.specs.declared.Change.the-variants as change
 use Rattle.releases.specs.Releases.{changed}
@@ -36,7 +36,6 @@ use Rattle.instrument.specs.declared.Instrument.{Instrument}
 use Rattle.instrument.specs.Instrument.{fresh, channelAt, replaced, channelOf, withChannel, withGenerators}
 use Rattle.instrument.specs.Instrument as of-instrument
 use Rattle.masking.specs.Masking.{isNewlyMasked, masked}
-use Rattle.playing.specs.declared.Answer.{Answer}
 use Rattle.playing.specs.declared.Answer.the-variants.{Done, Number}
 use Rattle.playing.specs.declared.Reply.{Reply}
 use Rattle.playing.specs.Playing.{replied, played}
@@ -44,11 +43,13 @@ use Rattle.other_messages.specs.OtherMessages.{playNoteOff, playControl}
 use Rattle.other_messages.specs.OtherMessages as of-others
 use Rattle.reports.specs.Reports.{reported}
 use Rattle.exclusive.specs.Exclusive.{newTable}
-use Rattle.note_book.specs.Demand3.{Slot, empty, note, Book, withNotes, withHolds, withTable, freshBook, shareOf, isRhythm, pedalDown, isDown, isOnPedal, isOf, isOfKey, freed, allFreed, put, slotOf, keepNoteOff, holdAfter, notesAfter, keepControl, keepMessage, isOfMasked, keepTable, keepReport}
+use Rattle.note_book.specs.Book.{Slot, empty, note, Book, withHolds, withTable, freshBook, shareOf, isRhythm, pedalDown, isDown, isOnPedal, isOf, isOfKey, freed, allFreed, put, keepNoteOff, holdAfter, notesAfter, keepControl, keepMessage, isOfMasked, keepTable, keepReport}
+use Rattle.note_book.specs.Claim.{slotOf}
+use Rattle.note_book.proofs.Either.{either-way}
 use Rattle.note_book.proofs.Playable.{playable-changed, playable-silenced, playable-restated, playable-silent}
-use Rattle.note_book.proofs.Sees.{Sees, slot-freed, means, pedals, sees-restated, sees-changed, sees-channel, sees-one, sees-silent}
+use Rattle.note_book.proofs.Sees.{slot-freed, means, pedals, sees-restated, sees-changed, sees-channel, sees-one, sees-silent}
 use Rattle.note_book.proofs.Pigeons.{IsListed}
-use Rattle.note_book.proofs.Matches.{quota, Matches, matches-notes, freed-listed, note-law}
+use Rattle.note_book.proofs.Matches.{quota, Matches, matches-notes, freed-listed, listed-unmasked, same-rhythm, note-law}
 
 -- ---- what frees notes and nothing else
 
@@ -68,8 +69,8 @@ same-pedal : (i : Instrument) (b : Book) → Matches i b → (c : ℕ) → 1 ≤
 same-pedal i b m c h = ap (leb 64) (m .holds c h)
 
 step-note-off : (i : Instrument) (b : Book) → Matches i b → (c k : ℕ) → 1 ≤ c → Matches (playNoteOff i c k) (keepNoteOff b c k)
-unfolding playNoteOff of-instrument.isRhythm
-step-note-off i b m c k h = go (eqb c 10)
+unfolding playNoteOff
+step-note-off i b m c k h = rw (same-rhythm i b m c) (go (isRhythm b c))
   where
     go : (r : Bool) → Matches (if r then i else withGenerators i (changed (change.NoteOff (of-instrument.pedalDown i c) c k) (i .generators)))
         (if r then b else allFreed (λ s. isDown s && isOfKey c k s) (pedalDown b c) b)
@@ -116,7 +117,7 @@ controlled-hold x n v = go (eqb n 64) refl (eqb n 121 && eqb v 0) refl
     go false p false q = rw (q, p)
 
 step-control : (i : Instrument) (b : Book) → Matches i b → (c n v : ℕ) → 1 ≤ c → c ≤ 16 → Matches (playControl i c n v) (keepControl b c n v)
-unfolding playControl of-others.notesAfter of-instrument.isRhythm withChannel
+unfolding playControl of-others.notesAfter withChannel
 step-control i b m c n v lo hi = go (liftsPedal n v) (silencesAll n v) (endsAll n v)
   where
     x : Channel
@@ -135,15 +136,15 @@ step-control i b m c n v lo hi = go (liftsPedal n v) (silencesAll n v) (endsAll 
     others d n = rw (ne-eqb d c n)
 
     up : Bool
-    up = pedalDown b c && not (eqb c 10)
+    up = pedalDown b c && not (isRhythm b c)
 
     up′ : Bool
-    up′ = of-instrument.pedalDown i c && not (eqb c 10)
+    up′ = of-instrument.pedalDown i c && not (of-instrument.isRhythm i c)
 
     all-off : Matches (withGenerators i (changed (change.AllNotesOff up′ c) s)) (allFreed (λ y. isDown y && isOf c y) up b)
     all-off =
         subst (λ (y : Bool). Matches (withGenerators i (changed (change.AllNotesOff y c) s)) (allFreed (λ y. isDown y && isOf c y) up b))
-        (ap (λ (y : Bool). y && not (eqb c 10)) (sym (same-pedal i b m c lo))) (matches-changed (change.AllNotesOff up c) i b m)
+        (ap₂ (λ (y z : Bool). y && not z) (sym (same-pedal i b m c lo)) (sym (same-rhythm i b m c))) (matches-changed (change.AllNotesOff up c) i b m)
 
     go : (p q r : Bool)
         → Matches (withGenerators (withChannel i c x) (if p then changed (change.PedalUp c) s else if q then silenced (leaving.Channel c) s else if r then changed (change.AllNotesOff up′ c) s else s))
@@ -177,7 +178,7 @@ step-message i b m Other h = m
 
 channel-of-listed : (c : ℕ) (l : List Entry) → Channels l → listed c l ≡ true → isChannel c ≡ true
 unfolding listed
-channel-of-listed c [] h e = absurd (let z : _≡_ {A = ℕ} 0 1 = cc in omega arith)
+channel-of-listed c [] h e = absurd (false≢true e)
 channel-of-listed c (x ∷ l) h e = go (eqb c (x .channel)) refl e (channel-of-listed c l (h .1))
   where
     go : (b : Bool) → eqb c (x .channel) ≡ b → b || listed c l ≡ true → (listed c l ≡ true → isChannel c ≡ true) → isChannel c ≡ true
@@ -189,13 +190,10 @@ abbrev pub gives-way : ℕ → Table → Table → Generator → Bool
 gives-way p old new x = isBusy x && isNewlyMasked p old new (x .channel)
 
 pub way-busy : (p : ℕ) (old new : Table) (x : Generator) → gives-way p old new x ≡ true → isBusy x ≡ true
-way-busy p old new x h = go (isBusy x) h
-  where
-    go : (a : Bool) → a && isNewlyMasked p old new (x .channel) ≡ true → a ≡ true
-    go true h = refl
-    go false h = h
+way-busy p old new x h = and-left (isBusy x) (isNewlyMasked p old new (x .channel)) h
 
--- the busy generators whose channel is newly masked are those whose channel the new table masks: none of them was masked before
+-- the busy generators whose channel is newly masked are those whose channel the new table masks: none of them was
+-- masked before
 module _ (i : Instrument) (b : Book) (m : Matches i b) (t : Table) (l : List Entry) (e : entriesOf t ≡ l) where
   new-share : (c : ℕ) → of-table.shareOf t (i .polyphony) c ≡ shareOf (withTable b l) c
   unfolding of-table.shareOf
@@ -226,13 +224,9 @@ module _ (i : Instrument) (b : Book) (m : Matches i b) (t : Table) (l : List Ent
   masked-listed empty = tt
   masked-listed (note p c k) = go (isMasked (shareOf (withTable b l) c)) refl
     where
-      listed-if : (y : Bool) → false ≡ not y → y ≡ true
-      listed-if true h = refl
-      listed-if false h = h
-
       go : (a : Bool) → isMasked (shareOf (withTable b l) c) ≡ a → IsListed (quota (withTable b l)) (if a then empty else note p c k)
       go true h = tt
-      go false h = listed-if (listed c (quota (withTable b l))) (sym h ∙ masked-unlisted c (quota (withTable b l)))
+      go false h = listed-unmasked c (quota (withTable b l)) h
 
   pub step-table : WellFormed l → Matches (newTable i t) (keepTable b l)
   unfolding newTable masked channelOf

@@ -1,12 +1,12 @@
--- Demand 3 bites. First its words, for any book and answer: what keeps within a share, what ends a run, what is served, robbed and lost is no less than the paper
--- says; a claim emptied behind its name would not give these facts. Then the end of any list. Short lists in which `demand-3` alone, not the device, says what becomes of a
--- note stand in crate `witnesses`, so that they are computed once and not for each wrong answer.
+-- Demand 3 bites. First its words, for any book and answer: what keeps within a share, what ends a run, what is
+-- served, robbed and lost is no less than the paper says; a claim emptied behind its name would not give these facts.
+-- Then the end of any list. Short lists in which `demand-3` alone, not the device, says what becomes of a note stand
+-- in crate `witnesses`, so that they are computed once and not for each wrong answer.
 -- Assumes nothing.
 use mathlib.Core.Path.{_≡_, refl, sym, ap, _∙_}
-use mathlib.Core.Bool.{Bool, true, false, not, _&&_, _||_}
+use mathlib.Core.Bool.{Bool, true, false, not, _&&_, _||_, false≢true}
 use mathlib.Core.List.{List, [], _∷_, _++_}
 use Prim.Native.Nat.{ℕ, _≤_, _<_}
-use native.Mathlib.Omega.{arith}
 use borrow.Author.Tests.{eqb-true}
 use lib.Dec.{eqb}
 use Rattle.table.specs.declared.Entry.{Entry}
@@ -19,14 +19,12 @@ use Rattle.allocation.specs.Allocation.{isStolen}
 use Rattle.playing.specs.declared.Answer.{Answer}
 use Rattle.playing.specs.declared.Answer.the-variants.{Nothing, Done, Note, NoNote, Number}
 use Rattle.events.specs.declared.Event.{Event}
-use Rattle.note_book.specs.Demand3.{Book, isNote, isOf, isEnded, remaining, Heard, nothing, message, newTable, reset, report, IsWithin, isLoss, isServed, Fair, Safe, IsInRun, System, after, IsExact, Always, Each, IsRun, StaysWithin, Demand3, Live, begin}
-use Rattle.note_book.specs.Demand3 as of-book
-use Rattle.note_book.proofs.Bytes.{demand-3}
+use Rattle.note_book.specs.Book.{Book, isNote, isOf, isEnded, remaining, Heard, nothing, message, newTable, reset, report}
+use Rattle.note_book.specs.Book as of-book
+use Rattle.note_book.specs.Claim.{IsWithin, isLoss, isServed, Fair, Safe, IsInRun, System, after, IsExact, Always, Each, IsRun, StaysWithin, Demand3, Live, begin}
+use Rattle.note_book.proofs.Demand3.{demand-3}
 
 -- ---- the words, whatever the device
-
-pub clash : {A : Type 0} → _≡_ {A = Bool} false true → A
-clash e = absurd (let z : _≡_ {A = ℕ} 0 1 = cc in omega arith)
 
 -- all of the share may be used
 pub whole-share : (u n : ℕ) → n ≤ u → IsWithin (Units u) n
@@ -51,19 +49,19 @@ served-note b c k a s = go a (s .0 refl)
   where
     same : (x y g : ℕ) (w : Was) (p : Bool) → eqb x c ≡ p → (q : Bool) → eqb y k ≡ q → p && q ≡ true → (h : ℕ) × ((v : Was) × (Note x y g w ≡ Note c k h v))
     same x y g w true p true q e = (g, (w, rw (eqb-true x c p, eqb-true y k q)))
-    same x y g w true p false q e = clash e
-    same x y g w false p q r e = clash e
+    same x y g w true p false q e = absurd (false≢true e)
+    same x y g w false p q r e = absurd (false≢true e)
 
     go : (a : Answer) → isServed c k a ≡ true → (g : ℕ) × ((w : Was) × (a ≡ Note c k g w))
     go (Note x y g w) e = same x y g w (eqb x c) refl (eqb y k) refl e
-    go Nothing e = clash e
-    go Done e = clash e
-    go (NoNote n x y) e = clash e
-    go (Number n) e = clash e
+    go Nothing e = absurd (false≢true e)
+    go Done e = absurd (false≢true e)
+    go (NoNote n x y) e = absurd (false≢true e)
+    go (Number n) e = absurd (false≢true e)
 
 -- where a note of channel c still stands, no other may be put: channel c would be robbed
 pub robbed-unsafe : (b : Book) (c d k g : ℕ) (w : Was) → isOf c (remaining b d k g) ≡ true → Safe c b (Note d k g w) d k → ⊥
-robbed-unsafe b c d k g w e s = clash (sym (s .1) ∙ e)
+robbed-unsafe b c d k g w e s = false≢true (sym (s .1) ∙ e)
 
 -- a loss is fair only where every generator had a note, and none that the new one ends
 pub fair-full : (b : Book) (a : Answer) (c k : ℕ) → Fair b a c k → isLoss b c k a ≡ true → (g : ℕ) → g < b .polyphony
@@ -100,10 +98,10 @@ not-lost b c k (Note x y g w) u e = (x, (y, (g, (w, (refl, go (isStolen w) e))))
     go : (p : Bool) → p || isNote (remaining b c k g) ≡ false → p ≡ false
     go true e = e
     go false e = refl
-not-lost b c k Nothing u e = clash (sym e ∙ ap not u)
-not-lost b c k Done u e = clash (sym e ∙ ap not u)
-not-lost b c k (NoNote n x y) u e = clash (sym e ∙ ap not u)
-not-lost b c k (Number n) u e = clash (sym e ∙ ap not u)
+not-lost b c k Nothing u e = absurd (false≢true (sym e ∙ ap not u))
+not-lost b c k Done u e = absurd (false≢true (sym e ∙ ap not u))
+not-lost b c k (NoNote n x y) u e = absurd (false≢true (sym e ∙ ap not u))
+not-lost b c k (Number n) u e = absurd (false≢true (sym e ∙ ap not u))
 
 -- ---- the end of any list
 

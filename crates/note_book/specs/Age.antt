@@ -1,5 +1,5 @@
--- Document 01, "The device record": "A generator is older than another if its assignment came earlier". Over a list of events: the order in the record is that
--- of the last note answers.
+-- Document 01, "The device record": "A generator is older than another if its assignment came earlier". Over a list
+-- of events: the order in the record is that of the last note answers.
 use Prim.Native.Nat.{ℕ}
 use mathlib.Core.Path.{_≡_}
 use mathlib.Core.List.{List, [], _∷_, _++_}
@@ -7,16 +7,12 @@ use Rattle.loops.specs.Passes.{filterBy}
 use Rattle.ages.specs.Ages.{oldestFirst, otherThan}
 use Rattle.generators.specs.Generators.{at, isSounding}
 use Rattle.playing.specs.declared.Answer.{Answer}
-use Rattle.playing.specs.declared.Answer.the-variants.{Nothing, Done, Note, NoNote, Number}
-use Rattle.note_book.specs.Demand3.{System, after}
+use Rattle.note_book.specs.Book.{ifNote}
+use Rattle.note_book.specs.Claim.{System, after}
 
 -- one answer more: its generator goes last
 abbrev pub named : List ℕ → Answer → List ℕ
-named l (Note c k g w) = filterBy (otherThan g) l ++ (g ∷ [])
-named l Nothing = l
-named l Done = l
-named l (NoNote n c k) = l
-named l (Number n) = l
+named l a = ifNote a (λ c k g w. filterBy (otherThan g) l ++ (g ∷ [])) l
 
 module _ (S : System) where
   -- the generators that note answers name, each at its last one, the earliest first; l is what came before

@@ -7,7 +7,8 @@ use Rattle.candidates.specs.Candidates.{busyCount}
 use Rattle.events.specs.declared.Event.{Event}
 use Rattle.service.specs.Page.{pageOf, pageText}
 use Rattle.service.proofs.Lines.{rows-same}
-use Rattle.note_book.specs.Demand3.{notesOn, after, Live, begin}
+use Rattle.note_book.specs.Book.{notesOn}
+use Rattle.note_book.specs.Claim.{after, Live, begin}
 use Rattle.note_book.proofs.Matches.{Matches}
 use Rattle.note_book.proofs.Choose.{count-notes}
 use Rattle.note_book.proofs.Run.{fine-after}

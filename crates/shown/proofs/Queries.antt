@@ -18,7 +18,7 @@ use Rattle.candidates.specs.Candidates.{busyCount}
 use Rattle.device.specs.declared.Device.{Device}
 use Rattle.queries.specs.Queries.{generatorQuery, maskAnswer, shareAnswer, maskQuery, shareQuery}
 use Rattle.service.specs.Page.{shareField, mark, row, pageText}
-use Rattle.note_book.specs.Demand3.{after, Live, begin}
+use Rattle.note_book.specs.Claim.{after, Live, begin}
 use Rattle.note_book.proofs.Playable.{idle-busy}
 use Rattle.note_book.proofs.Choose.{total-cut}
 use Rattle.shown.specs.Shown.{shareTold, markTold, isBusyTold, isOnTold, busyTold, Agrees, AgreesWithQueries}

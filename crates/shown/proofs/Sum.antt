@@ -19,7 +19,7 @@ use Rattle.generators.specs.Generators.{Generator, at, isIdle, isHeld, isSustai
 use Rattle.candidates.specs.Candidates.{busyCount}
 use Rattle.queries.specs.Queries.{generatorQuery}
 use Rattle.service.specs.Page.{inTwo}
-use Rattle.note_book.specs.Demand3.{slotOf, after, Live, begin}
+use Rattle.note_book.specs.Claim.{slotOf, after, Live, begin}
 use Rattle.note_book.proofs.Pigeons.{IsListed}
 use Rattle.note_book.proofs.Choose.{total-cut}
 use Rattle.note_book.proofs.Matches.{quota}

@@ -42,7 +42,8 @@ use Rattle.queries.specs.declared.ShareAnswer.the-variants.{ShareIs}
 use Rattle.queries.specs.Queries.{generatorQuery, maskQuery, shareQuery}
 use Rattle.log.specs.Log.{decimal}
 use Rattle.service.specs.Page.{inTwo, inThree, standingFrom, placeField, valueField, head, line, row, rowsTo, pageOf, pageText}
-use Rattle.note_book.specs.Demand3.{notesOn, after, Live, begin}
+use Rattle.note_book.specs.Book.{notesOn}
+use Rattle.note_book.specs.Claim.{after, Live, begin}
 use Rattle.shown.specs.Shown.{ShowsTheBook, isBusyTold, isOnTold, readTwo, lineAt, field, Agrees, AgreesWithQueries, NotesAddUp, Characters, IsLine, Bytes, OfBytes, SeventeenLines, RightAligned}
 
 -- ---- the words

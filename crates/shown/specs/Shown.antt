@@ -24,7 +24,8 @@ use Rattle.queries.specs.declared.ShareAnswer.the-variants.{ShareIs, NotAChanne
 use Rattle.queries.specs.Queries.{generatorQuery, maskQuery, shareQuery}
 use Rattle.log.specs.Log.{decimal}
 use Rattle.service.specs.Page.{inTwo, inThree, standingFrom, placeField, valueField, pageOf, pageText}
-use Rattle.note_book.specs.Demand3.{Book, notesOn, after, Live, begin}
+use Rattle.note_book.specs.Book.{Book, notesOn}
+use Rattle.note_book.specs.Claim.{after, Live, begin}
 
 -- ---- the note book's page
 

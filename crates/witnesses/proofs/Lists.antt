@@ -1,8 +1,9 @@
--- Demand 3 bites, in short lists: a drum is served, an idle generator is given, a theft that is allowed, and runs that bring a drum along. What stood there before is computed
--- from the definitions; what becomes of the last note `demand-3` alone says.
+-- Demand 3 bites, in short lists: a drum is served, an idle generator is given, a theft that is allowed, and runs
+-- that bring a drum along. What stood there before is computed from the definitions; what becomes of the last note
+-- `demand-3` alone says.
 -- Assumes nothing.
 use mathlib.Core.Path.{_≡_, refl}
-use mathlib.Core.Bool.{true, false, Bool}
+use mathlib.Core.Bool.{Bool, true, false, false≢true}
 use mathlib.Core.List.{List, [], _∷_, _++_}
 use Prim.Native.Nat.{ℕ, _≤_}
 use native.Mathlib.Omega.{arith}
@@ -25,10 +26,11 @@ use Rattle.device.specs.Device.{started, heard, byteTaken}
 use Rattle.events.specs.declared.Event.{Event}
 use Rattle.events.specs.declared.Event.the-variants.{Byte, Report}
 use Rattle.events.specs.Events.{taken, reportTaken}
-use Rattle.note_book.specs.Demand3.{isNote, isOf, isEnded, keepMessage, keep, stolenNote, isLoss, isServed, after, Both, Live, begin}
-use Rattle.note_book.proofs.Bytes.{demand-3}
+use Rattle.note_book.specs.Book.{isNote, isOf, isEnded, keepMessage, keep}
+use Rattle.note_book.specs.Claim.{stolenNote, isLoss, isServed, after, Both, Live, begin}
+use Rattle.note_book.proofs.Demand3.{demand-3}
 use Rattle.reports.specs.Reports.{reported}
-use Rattle.note_book.proofs.Witness.{clash, IsGiven, not-lost}
+use Rattle.note_book.proofs.Witness.{IsGiven, not-lost}
 
 -- ---- arithmetic on numerals, apart from the lists: what a tactic finds in reach it computes
 
@@ -66,7 +68,7 @@ unfolding begun stored oneDataByte completed dataByte opened ended statusByte sp
 idle-generator-given = go (isLoss (first .book) 1 60 (Live .answer first (Byte 64))) refl
   where
     go : (l : Bool) → isLoss (first .book) 1 60 (Live .answer first (Byte 64)) ≡ l → IsGiven (Live .answer first (Byte 64))
-    go true e = clash (demand-3 1 0 (Byte 0x90 ∷ Byte 60 ∷ Byte 64 ∷ []) .fair .1 .1 .0 e 0 1-of-1 .0)
+    go true e = absurd (false≢true (demand-3 1 0 (Byte 0x90 ∷ Byte 60 ∷ Byte 64 ∷ []) .fair .1 .1 .0 e 0 1-of-1 .0))
     go false e = not-lost (first .book) 1 60 (Live .answer first (Byte 64)) refl e
 
 -- ---- P 1, a note held on channel 1: a drum steals it
@@ -96,7 +98,8 @@ drum-kept =
     demand-3 1 0 (first-drum ++ (Byte 0x90 ∷ Byte 60 ∷ Byte 64 ∷ Report 0 ∷ [])) .shared first-drum (Byte 0x90 ∷ Byte 60 ∷ Byte 64 ∷ []) (Report 0 ∷ []) refl (tt, (tt, (tt, tt)))
     10 (1-of-1, (tt, (tt, ((λ e. absurd (1-not-10 e)), tt)))) .1 .1 .0 .1
 
--- P 2: channel 1 takes the second generator, and then channel 10 wants a second drum, which with the first is all of its share; it is served
+-- P 2: channel 1 takes the second generator, and then channel 10 wants a second drum, which with the first is all of
+-- its share; it is served
 abbrev all-taken : Both
 all-taken = after Live (begin 2 0) (first-drum ++ (Byte 0x90 ∷ Byte 60 ∷ Byte 64 ∷ Byte 0x99 ∷ Byte 38 ∷ []))
 
