@@ -12,140 +12,195 @@
 //! : OTHER CODE            every one has this instead: room for what a fault needs, nothing else
 //! ```
 //!
-//! A fault may have several places.
+//! A fault may have several places. `help::` is src/help.rs.
 
 use std::collections::BTreeMap;
 use std::env;
-use std::fmt::Write;
 use std::fs;
 use std::path::{Path, PathBuf};
 
-/// Their types are paper's own, so that answers can be compared.
-const SHARED: &str = "mod answer { pub use paper::{Answer, Number, Was}; }\n";
+/// Files by name.
+type Texts = BTreeMap<String, String>;
 
-/// A place of a file, and the code of each fault there; `before` if it comes in addition.
-struct Place {
-    from: usize,
-    to: usize,
-    always: Option<String>,
-    faults: Vec<Other>,
-}
-
+/// What a fault has at a place, from a byte of a file to another. Number 0 is no fault: it is always so.
 struct Other {
+    file: String,
+    place: (usize, usize),
     fault: usize,
+    /// In addition, and before what is there?
     before: bool,
     code: String,
 }
 
-/// Faults are numbered from 1; each list has the name of its file, and the names of its faults with their numbers.
+/// Faults are numbered from 1, over all lists.
 #[derive(Default)]
 struct Faults {
-    lists: Vec<(String, Vec<(String, usize)>)>,
-    count: usize,
-    places: BTreeMap<String, Vec<Place>>,
+    /// The list and the name of each.
+    names: Vec<(String, String)>,
+    others: Vec<Other>,
 }
 
 fn main() {
-    let package = PathBuf::from(env::var("CARGO_MANIFEST_DIR").expect("cargo says where the package is"));
-    let out = PathBuf::from(env::var("OUT_DIR").expect("cargo says where to write"));
-    let (sources, lists) = (package.join("../paper/src"), package.join("faults"));
-    for folder in [&sources, &lists] {
-        println!("cargo:rerun-if-changed={}", folder.display());
-    }
-    let sources = texts(&sources);
+    let folder = |name| PathBuf::from(env::var(name).expect("cargo sets it"));
+    let (package, out) = (folder("CARGO_MANIFEST_DIR"), folder("OUT_DIR"));
+    let sources = texts(&package.join("../paper/src"));
+    let lists = texts(&package.join("faults"));
     let mut faults = Faults::default();
-    for (name, text) in texts(&lists) {
-        faults.lists.push((name.trim_end_matches(".faults").to_string(), Vec::new()));
-        faults.read(&name, &text, &sources);
+    for (list, text) in &lists {
+        if let Err(why) = faults.read(list.trim_end_matches(".faults"), text, &sources) {
+            panic!("{list}: {why}");
+        }
     }
-    for (name, text) in &sources {
-        let mut places = faults.places.remove(name).unwrap_or_default();
-        let text = match name.as_str() {
-            "lib.rs" => faults.root(text, &out),
-            _ => with_faults(name, text, &mut places),
+    for (file, text) in &sources {
+        let text = match file.as_str() {
+            "lib.rs" => modules(text, &out) + &faults.lists(),
+            _ => faults.source(file, text),
         };
-        fs::write(out.join(name), text).expect("the folder is ours");
+        fs::write(out.join(file), text).expect("the folder is ours");
     }
 }
 
-/// The files of a folder by name.
-fn texts(folder: &Path) -> BTreeMap<String, String> {
-    let entries = fs::read_dir(folder).expect("the folder is there");
-    let text = |path: PathBuf| (path.file_name().unwrap().to_string_lossy().into_owned(), fs::read_to_string(&path).unwrap());
-    entries.map(|entry| text(entry.unwrap().path())).collect()
+/// The files of a folder. Cargo is to run this again if they change.
+fn texts(folder: &Path) -> Texts {
+    println!("cargo:rerun-if-changed={}", folder.display());
+    let paths = fs::read_dir(folder).expect("the folder is there");
+    let paths = paths.map(|entry| entry.expect("it can be read").path());
+    let name = |path: &Path| {
+        path.file_name()
+            .expect("it has one")
+            .to_string_lossy()
+            .into_owned()
+    };
+    let text = |path: &Path| fs::read_to_string(path).expect("it is text");
+    paths.map(|path| (name(&path), text(&path))).collect()
 }
 
 impl Faults {
-    fn read(&mut self, list: &str, text: &str, sources: &BTreeMap<String, String>) {
-        let (mut file, mut place) = (String::new(), 0);
+    fn read(&mut self, list: &str, text: &str, sources: &Texts) -> Result<(), String> {
+        let (mut file, mut place) = (String::new(), (0, 0));
         for line in whole_lines(text) {
-            let (at, code) = line.split_once(' ').unwrap_or((&line, ""));
-            let complain = |why: &str| -> ! { panic!("{list}: {why}: {line}") };
-            match at {
-                "in" => file = code.to_string(),
-                "at" => {
-                    let Some(source) = sources.get(&file) else { complain("no such file") };
-                    let (from, to) = found(source, code).unwrap_or_else(|count| complain(&format!("{count} times in {file}")));
-                    let places = self.places.entry(file.clone()).or_default();
-                    place = places.iter().position(|place| (place.from, place.to) == (from, to)).unwrap_or(places.len());
-                    if place == places.len() {
-                        places.push(Place { from, to, always: None, faults: Vec::new() });
-                    }
+            let (word, rest) = line.split_once(' ').unwrap_or((&line, ""));
+            match word.strip_suffix(':') {
+                None if word == "in" => file = rest.to_string(),
+                None if word == "at" => {
+                    let times = |times| format!("{times} times in {file}, not once: {rest}");
+                    place = found(&sources[&file], rest).map_err(times)?;
                 }
-                _ => {
-                    let Some(name) = at.strip_suffix(':') else { complain("of another form") };
-                    let fault = (!name.is_empty()).then(|| self.number(name.trim_start_matches('+')));
-                    let Some(place) = self.places.get_mut(&file).and_then(|places| places.get_mut(place)) else { complain("no place") };
-                    let (before, code) = (name.starts_with('+'), code.to_string());
-                    match fault {
-                        Some(fault) => place.faults.push(Other { fault, before, code }),
-                        None => place.always = Some(code),
-                    }
+                None => return Err(format!("of another form: {line}")),
+                Some(name) => {
+                    let fault = self.number(list, name.trim_start_matches('+'));
+                    self.others.push(Other {
+                        file: file.clone(),
+                        place,
+                        fault,
+                        before: name.starts_with('+'),
+                        code: rest.replace("help::", "crate::help::"),
+                    });
                 }
             }
         }
+        Ok(())
     }
 
-    /// The number of a fault of the last list, a new one if it is new.
-    fn number(&mut self, name: &str) -> usize {
-        let list = &mut self.lists.last_mut().expect("a list is being read").1;
-        if let Some((_, number)) = list.iter().find(|row| row.0 == name) {
-            return *number;
+    /// The number of a fault, a new one if it is new.
+    fn number(&mut self, list: &str, name: &str) -> usize {
+        let known = self
+            .names
+            .iter()
+            .position(|row| row.0 == list && row.1 == name);
+        if let Some(at) = known {
+            return at + 1;
         }
-        self.count += 1;
-        list.push((name.to_string(), self.count));
-        self.count
+        if name.is_empty() {
+            return 0;
+        }
+        self.names.push((list.to_string(), name.to_string()));
+        self.names.len()
     }
 
-    /// The crate's root: paper's modules, and the lists.
-    fn root(&self, text: &str, out: &Path) -> String {
-        let mut root = String::new();
-        for line in text.lines().filter(|line| !line.starts_with("//!")) {
-            match line.strip_prefix("mod ").and_then(|rest| rest.strip_suffix(';')) {
-                Some("answer") => root += SHARED,
-                Some(module) => {
-                    let path = out.join(module).with_extension("rs");
-                    writeln!(root, "#[path = {path:?}]\nmod {module};").unwrap();
-                }
-                None => root = root + line + "\n",
-            }
+    /// A file with its faults.
+    fn source(&self, file: &str, text: &str) -> String {
+        let mut places: BTreeMap<(usize, usize), Vec<&Other>> = BTreeMap::new();
+        for other in self.others.iter().filter(|other| other.file == file) {
+            places.entry(other.place).or_default().push(other);
         }
-        for (name, faults) in &self.lists {
-            let name = name.to_uppercase();
-            writeln!(root, "pub const {name}: &[Fault] = &[").unwrap();
-            for (name, number) in faults {
-                writeln!(root, "    Fault {{ number: {number}, name: {name:?} }},").unwrap();
-            }
-            root += "];\n";
+        let (mut made, mut at) = (String::new(), 0);
+        for ((from, to), others) in places {
+            assert!(
+                at <= from,
+                "{file}: two places overlap at {}",
+                &text[from..to]
+            );
+            made = made + &text[at..from] + &with_others(&text[from..to], &others);
+            at = to;
         }
-        root
+        made + &text[at..]
     }
+
+    /// A constant for each list.
+    fn lists(&self) -> String {
+        let mut lists: BTreeMap<&str, String> = BTreeMap::new();
+        for (at, (list, name)) in self.names.iter().enumerate() {
+            let fault = format!("    Fault {{ number: {}, name: {name:?} }},\n", at + 1);
+            *lists.entry(list).or_default() += &fault;
+        }
+        let list = |(name, faults): (&str, String)| {
+            format!(
+                "pub const {}: &[Fault] = &[\n{faults}];\n",
+                name.to_uppercase()
+            )
+        };
+        lists.into_iter().map(list).collect()
+    }
+}
+
+/// A place with the code of each fault there.
+fn with_others(right: &str, others: &[&Other]) -> String {
+    let switched =
+        |other: &&&Other| format!("if crate::makes({}) {{ {} }} ", other.fault, other.code);
+    let always = others.iter().find(|other| other.fault == 0);
+    let right = always.map_or(right, |other| &other.code);
+    let before: String = others
+        .iter()
+        .filter(|other| other.before)
+        .map(|other| switched(&other))
+        .collect();
+    let instead = others
+        .iter()
+        .filter(|other| !other.before && other.fault > 0);
+    let instead: String = instead.map(|other| switched(&other) + "else ").collect();
+    match instead.is_empty() {
+        true => before + right,
+        false => format!("{before}({{ {instead}{{ {right} }} }})"),
+    }
+}
+
+/// The modules of paper, from their copies. Its answers are its own, so that they can be compared.
+fn modules(text: &str, out: &Path) -> String {
+    let module = |line: &str| match line
+        .strip_prefix("mod ")
+        .and_then(|rest| rest.strip_suffix(';'))
+    {
+        Some("answer") => "mod answer { pub use paper::{Answer, Number, Was}; }\n".to_string(),
+        Some(name) => format!(
+            "#[path = {:?}]\nmod {name};\n",
+            out.join(name).with_extension("rs")
+        ),
+        None => format!("{line}\n"),
+    };
+    text.lines()
+        .filter(|line| !line.starts_with("//!"))
+        .map(module)
+        .collect()
 }
 
 /// The lines without remarks, each with those that go on with it.
 fn whole_lines(text: &str) -> Vec<String> {
     let mut lines: Vec<String> = Vec::new();
-    for line in text.lines().filter(|line| !line.starts_with('#') && !line.trim().is_empty()) {
+    for line in text
+        .lines()
+        .filter(|line| !line.starts_with('#') && !line.trim().is_empty())
+    {
         match lines.last_mut().filter(|_| line.starts_with(' ')) {
             Some(before) => *before = format!("{before} {}", line.trim()),
             None => lines.push(line.trim_end().to_string()),
@@ -158,12 +213,11 @@ fn whole_lines(text: &str) -> Vec<String> {
 fn found(text: &str, place: &str) -> Result<(usize, usize), usize> {
     let parts: Vec<&str> = place.split(['«', '»']).collect();
     let (context, code) = match parts[..] {
-        [code] => ("", code),
         [context, code, _] => (context, code),
-        _ => return Err(0),
+        _ => ("", place),
     };
-    let all = parts.concat();
-    let matches: Vec<usize> = text.char_indices().map(|at| at.0).filter(|&at| end(text, at, &all).is_some()).collect();
+    let begins = |&at: &usize| end(text, at, &parts.concat()).is_some();
+    let matches: Vec<usize> = text.char_indices().map(|at| at.0).filter(begins).collect();
     match matches[..] {
         [at] => {
             let from = after_blanks(text, end(text, at, context).expect("it is the beginning"));
@@ -180,33 +234,13 @@ fn end(text: &str, from: usize, code: &str) -> Option<usize> {
         if at != from {
             at = after_blanks(text, at);
         }
-        at += text[at..].starts_with(letter).then_some(letter.len_utf8())?;
+        at += text[at..]
+            .starts_with(letter)
+            .then_some(letter.len_utf8())?;
     }
     Some(at)
 }
 
 fn after_blanks(text: &str, at: usize) -> usize {
     at + text[at..].len() - text[at..].trim_start().len()
-}
-
-/// A file with its faults.
-fn with_faults(name: &str, text: &str, places: &mut [Place]) -> String {
-    places.sort_by_key(|place| place.from);
-    let (mut made, mut at) = (String::new(), 0);
-    for Place { from, to, always, faults } in places {
-        assert!(at <= *from, "{name}: two places overlap at {}", &text[*from..*to]);
-        made += &text[at..*from];
-        for Other { fault, code, .. } in faults.iter().filter(|other| other.before) {
-            write!(made, "if crate::makes({fault}) {{ {code} }} ").unwrap();
-        }
-        let right = always.as_deref().unwrap_or(&text[*from..*to]);
-        let others: Vec<&Other> = faults.iter().filter(|other| !other.before).collect();
-        let chain: String = others.iter().map(|Other { fault, code, .. }| format!("if crate::makes({fault}) {{ {code} }} else ")).collect();
-        match others.is_empty() {
-            true => made += right,
-            false => write!(made, "({{ {chain}{{ {right} }} }})").unwrap(),
-        }
-        at = *to;
-    }
-    made + &text[at..]
 }

@@ -49,7 +49,9 @@ pub fn variants<Slip: Copy>(
     let by_fault = faults.iter().map(|&fault| variant(fault.name, Some(fault)));
     let alone = slips.iter().map(|row| row.0);
     let alone = alone.filter(|&name| faults.iter().all(|fault| fault.name != name));
-    by_fault.chain(alone.map(|name| variant(name, None))).collect()
+    by_fault
+        .chain(alone.map(|name| variant(name, None)))
+        .collect()
 }
 
 /// Runs all of it and says what was not found; nothing if all is well.

@@ -1,5 +1,5 @@
-//! The second implementation with a fault, the crate `wrong`, as one side of the comparison; its page and its gains can be
-//! wrong by a slip beside it as well.
+//! The second implementation with a fault, the crate `wrong`, as one side of the comparison; its page and its gains can
+//! be wrong by a slip beside it as well.
 
 use crate::gains::{Answered, Levels};
 use crate::pages::Memory;
@@ -7,12 +7,14 @@ use crate::record::{Given, Implementation, Items, Record, SysExBytes, IDLE};
 use crate::wrong_page::Slip;
 use paper::{Answer, Entry, GeneratorView, Number, Progress, State, MOST_GENERATORS};
 
-/// Which channel's gains are given for this one, and whether with modulation for expression.
+/// What expression, volume and pan of a channel are taken to be, by its place among all.
 pub type GainsSlip = fn(usize, &[wrong::Channel; 16]) -> [u8; 3];
 
-/// What can be wrong about the gains of a channel, with the right gains for what is asked.
+/// What can be wrong about the gains of a channel: they are those of other numbers.
 pub const GAINS_SLIPS: [(&str, GainsSlip); 3] = [
-    ("GainsOfTheNextChannel", |at, all| three(&all[(at + 1) % 16])),
+    ("GainsOfTheNextChannel", |at, all| {
+        three(&all[(at + 1) % 16])
+    }),
     ("GainsOfAFreshChannel", |_, _| three(&wrong::Channel::FRESH)),
     ("GainsWithModulationForExpression", |at, all| {
         [all[at].modulation, all[at].volume, all[at].pan]
@@ -43,11 +45,7 @@ pub fn start_with_gains(
     start_with(None, gains, polyphony, id)
 }
 
-pub fn start_with_page(
-    page: Option<Slip>,
-    polyphony: u8,
-    id: u8,
-) -> (WrongDevice, Given<Answer>) {
+pub fn start_with_page(page: Option<Slip>, polyphony: u8, id: u8) -> (WrongDevice, Given<Answer>) {
     start_with(page, None, polyphony, id)
 }
 
@@ -75,7 +73,11 @@ fn view_of(view: wrong::GeneratorView) -> GeneratorView {
         wrong::State::Releasing => State::Releasing,
     };
     let (channel, key) = (view.channel, view.key);
-    GeneratorView { state, channel, key }
+    GeneratorView {
+        state,
+        channel,
+        key,
+    }
 }
 
 pub fn progress_of(progress: wrong::Progress) -> Progress {
@@ -96,7 +98,11 @@ pub fn record_of(device: &wrong::Device) -> Record {
     // The bytes of a SysEx that overflowed count one more than were kept.
     let mut bytes = sysex.kept().to_vec();
     bytes.extend(sysex.overflowed().then_some(0));
-    let sysex: &[u8] = if progress == Progress::SysEx { &bytes } else { &[] };
+    let sysex: &[u8] = if progress == Progress::SysEx {
+        &bytes
+    } else {
+        &[]
+    };
     Record {
         polyphony: device.polyphony(),
         id: device.id(),

@@ -1,5 +1,5 @@
-//! What can be wrong about a log beside the ticket's rules (that is in `wrong`): the order and the parts as they are taken,
-//! the record, what is answered, and the call for a whole log.
+//! What can be wrong about a log beside the ticket's rules (that is in `wrong`): the parts as they are taken, the record,
+//! what is answered, and the call for a whole log.
 
 use crate::arranging_sides::{arranged_of, kept, number_of, Arranger, Heard, LogRecord};
 use crate::record::Given;
@@ -7,8 +7,8 @@ use crate::wrong_device;
 use paper::{Arranged, Event, Number, LINE_BYTES};
 use proved::MipAnswer;
 
-/// The log, and what a slip knows beside it.
 type Log = wrong::Log;
+/// How many bytes of a line are kept, and these.
 type Kept = (u8, [u8; LINE_BYTES]);
 
 #[derive(Clone, Copy)]
@@ -51,13 +51,15 @@ pub const SLIPS: &[(&str, Slip)] = &[
     ("NumberTellsLine0", Slip::Answer(|answer, _| if answer.number != 0 { answer.line = 0 })),
     ("MessageTellsLine0", Slip::Answer(|answer, _| if answer.number == 0 { answer.line = 0 })),
     // Of 15 and 17.
-    ("UnendedLineBeforeANumber", Slip::Answer(|answer, log| if answer.number == 17 && log.line.count > 0 { (answer.number, answer.line) = (15, answer.line + 1) })),
+    ("UnendedLineBeforeANumber", Slip::Answer(|answer, log| if answer.number == 17 && log.line.count > 0 {
+        (answer.number, answer.line) = (15, answer.line + 1)
+    })),
     ("NumbersSwapped", Slip::Fallen(|log, _| log.number = log.number.map(swapped))),
     // Counts.
     ("CountsOnceAtTheEndOfAPart", Slip::Parted(|log, _| if log.number.is_none() { log.count() })),
     // The message.
     ("ChannelNotLowered", Slip::Message(|message, _| pairs(message, |[channel, value]| [channel + 1, value]))),
-    ("ChannelsFromTwo", Slip::Message(|message, _| pairs(message, |[channel, value]| [channel.wrapping_sub(1), value]))),
+    ("ChannelsFromTwo", Slip::Message(|message, _| pairs(message, |[wire, value]| [wire.wrapping_sub(1), value]))),
     ("DeviceByte0", Slip::Message(|message, _| message[2] = 0)),
     ("DeviceByte7E", Slip::Message(|message, _| message[2] = 0x7E)),
     ("FirstByte7E", Slip::Message(|message, _| message[1] = 0x7E)),
@@ -68,9 +70,12 @@ pub const SLIPS: &[(&str, Slip)] = &[
     ("PairsSwapped", Slip::Message(|message, _| pairs(message, |[channel, value]| [value, channel]))),
     ("MessageByNumber", Slip::Message(|message, _| all_pairs(message, |pairs| pairs.sort_unstable()))),
     ("MessageBackward", Slip::Message(|message, _| all_pairs(message, |pairs| pairs.reverse()))),
-    ("ChannelsThenValues", Slip::Message(|message, log| { let order = log.order.map(|channel| channel.wrapping_sub(1)); message[5..37].copy_from_slice(&[order, log.most].concat()) })),
+    ("ChannelsThenValues", Slip::Message(|message, log| {
+        let wires = log.order.map(|channel| channel.wrapping_sub(1));
+        message[5..37].copy_from_slice(&[wires, log.most].concat())
+    })),
     ("MessageOneByteEarly", Slip::Message(|message, _| message.rotate_left(1))),
-    ("ValuesInMessageOneLess", Slip::Message(|message, _| pairs(message, |[channel, value]| [channel, value.saturating_sub(1)]))),
+    ("ValuesInMessageOneLess", Slip::Message(|message, _| pairs(message, |[wire, n]| [wire, n.saturating_sub(1)]))),
     ("EmptyLogAllZeros", Slip::Message(|message, log| if log.lines == 0 { message.fill(0) })),
     // Beside a number.
     ("MessageBesideANumber", Slip::Answer(|answer, log| if answer.number != 0 { answer.bytes = log.message() })),
@@ -85,9 +90,11 @@ pub const SLIPS: &[(&str, Slip)] = &[
     // Parts.
     ("CutEndsALine", Slip::Parted(|log, _| if log.line.count > 0 { log.part(b"\n"); })),
     ("CutLosesTheLine", Slip::Parted(|log, _| log.line.count = 0)),
-    ("CutInsideALineIsOfAnotherForm", Slip::Parted(|log, _| if log.line.count > 0 && log.number.is_none() { log.number = Some(Number::LogOtherForm) })),
+    ("CutInsideALineIsOfAnotherForm", Slip::Parted(|log, _| if log.line.count > 0 && log.number.is_none() {
+        log.number = Some(Number::LogOtherForm)
+    })),
     ("EmptyPartEndsALine", Slip::Parted(|log, part| if part.is_empty() { log.part(b"\n"); })),
-    ("EmptyPartCountsALine", Slip::Parted(|log, part| log.lines = log.lines.saturating_add(u64::from(part.is_empty())))),
+    ("EmptyPartCountsALine", Slip::Parted(|log, part| log.lines = log.lines.saturating_add(part.is_empty().into()))),
     ("PartsInEightBits", Slip::Part(|part| &part[..usize::from(part.len() as u8)])),
     ("PartsInSixteenBits", Slip::Part(|part| &part[..usize::from(part.len() as u16)])),
     // The call for a whole log.
@@ -98,14 +105,16 @@ pub const SLIPS: &[(&str, Slip)] = &[
     ("WholeTellsNoLine", Slip::WholeAnswer(|answer, _| answer.line = 0)),
 ];
 
-/// What shows in the record, in the answers to parts or beside another log, and not in what a log yields that is given whole.
+/// What shows in the record, in the answers to parts or beside another log, and not in what a whole log yields.
 #[rustfmt::skip]
 pub const RECORD_SLIPS: &[(&str, Slip)] = &[
     ("WrongOrderAnsweredOnce", Slip::Told(|_, number| number.filter(|&number| number != Number::BadOrder))),
     ("PartsAnswer0", Slip::Told(|_, _| None)),
     ("PartsAnswerOnce", Slip::Told(|told, number| number.filter(|_| !told))),
     ("LineNotEmptiedByANumber", Slip::Fallen(|log, before| log.line = before.line)),
-    ("OldBytesBehindTheCount", Slip::Line(|line, old| (kept(line).0, std::array::from_fn(|at| *line.get(at).or(old.get(at)).unwrap_or(&0))))),
+    ("OldBytesBehindTheCount", Slip::Line(|line, old| {
+        (kept(line).0, std::array::from_fn(|at| *line.get(at).or(old.get(at)).unwrap_or(&0)))
+    })),
     ("LineKeepsItsLastBytes", Slip::Line(|line, _| kept(&line[line.len().saturating_sub(7)..]))),
     ("LineCountGoesOn", Slip::Line(|line, _| (line.len().min(255) as u8, kept(line).1))),
     ("LineKeepsFiveBytes", Slip::Line(|line, _| kept(&line[..line.len().min(5)]))),
@@ -152,7 +161,10 @@ fn pairs(message: &mut [u8; 38], change: fn([u8; 2]) -> [u8; 2]) {
 
 /// Changes the pairs of a message together.
 fn all_pairs(message: &mut [u8; 38], change: fn(&mut [[u8; 2]])) {
-    let mut pairs: Vec<[u8; 2]> = message[5..37].chunks_exact(2).map(|pair| [pair[0], pair[1]]).collect();
+    let mut pairs: Vec<[u8; 2]> = message[5..37]
+        .chunks_exact(2)
+        .map(|pair| [pair[0], pair[1]])
+        .collect();
     change(&mut pairs);
     message[5..37].copy_from_slice(&pairs.concat());
 }
@@ -170,7 +182,13 @@ pub struct WrongLog {
 
 impl WrongLog {
     pub fn new(slip: Option<Slip>) -> WrongLog {
-        WrongLog { slip, log: Log::begin(&[]), heard: Heard::default(), old: Vec::new(), told: false }
+        WrongLog {
+            slip,
+            log: Log::begin(&STARTING_ORDER),
+            heard: Heard::default(),
+            old: Vec::new(),
+            told: false,
+        }
     }
 
     fn line_ends(&mut self) {
@@ -197,7 +215,11 @@ impl WrongLog {
         if let (Some(Slip::Message(change)), Ok(_)) = (self.slip, message) {
             change(&mut bytes, &self.log);
         }
-        let mut answer = MipAnswer { line, number, bytes };
+        let mut answer = MipAnswer {
+            line,
+            number,
+            bytes,
+        };
         if let Some(Slip::Answer(change)) = self.slip {
             change(&mut answer, &self.log);
         }

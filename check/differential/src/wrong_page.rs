@@ -1,5 +1,5 @@
-//! What can be wrong about a service page beside what stands in its columns (that is in `wrong`): its form, its number, and
-//! what is written where. The page itself is the second implementation's.
+//! What can be wrong about a service page beside what stands in its columns (that is in `wrong`): its form, its number,
+//! and what is written where. The page itself is the second implementation's.
 
 use crate::library;
 use crate::pages::Memory;
@@ -136,7 +136,9 @@ pub const SLIPS: &[(&str, Slip)] = &[
     ("AllInHexadecimal", Slip::Field(NUMBERS, hexadecimal)),
     ("ChannelInHexadecimal", Slip::Field(&[0], hexadecimal)),
     ("ValueInHexadecimal", Slip::Field(&[2], hexadecimal)),
-    ("DigitsBackward", Slip::Field(NUMBERS, |field| format!("{:>1$}", field.trim().chars().rev().collect::<String>(), field.len()))),
+    ("DigitsBackward", Slip::Field(NUMBERS, |field| {
+        format!("{:>1$}", field.trim().chars().rev().collect::<String>(), field.len())
+    })),
     ("OneDash", Slip::Field(&[1, 2, 3], |field| nothing(field, &format!("{:>1$}", "-", field.len())))),
     ("OneDashLeft", Slip::Field(&[1, 2, 3], |field| nothing(field, &format!("{:<1$}", "-", field.len())))),
     ("TwoDashes", Slip::Field(&[1, 2, 3], |field| nothing(field, &format!("{:>1$}", "--", field.len())))),
@@ -171,7 +173,9 @@ fn zeros(field: &str) -> String {
 
 fn hexadecimal(field: &str) -> String {
     let number = field.trim().parse::<u8>();
-    number.map_or(field.to_string(), |number| format!("{number:>0$X}", field.len()))
+    number.map_or(field.to_string(), |number| {
+        format!("{number:>0$X}", field.len())
+    })
 }
 
 /// This in place of a field without a number.
@@ -189,7 +193,11 @@ impl Slip {
             Slip::LengthIgnored => false,
             _ => length < ROOM,
         };
-        let number = if refused { Number::PageTooShort as u8 } else { 0 };
+        let number = if refused {
+            Number::PageTooShort as u8
+        } else {
+            0
+        };
         match self {
             Slip::Left(left) if refused => left(&page, memory, length as isize),
             _ if refused => {}
@@ -236,7 +244,10 @@ impl Slip {
             Slip::LineEnd(end) => end,
             _ => "\n",
         };
-        lines.iter().flat_map(|line| format!("{line}{end}").into_bytes()).collect()
+        lines
+            .iter()
+            .flat_map(|line| format!("{line}{end}").into_bytes())
+            .collect()
     }
 
     fn row(self, row: &str) -> String {
@@ -244,7 +255,9 @@ impl Slip {
         match self {
             Slip::Row(change) => return change(row),
             Slip::Fields(change) => change(&mut fields),
-            Slip::Field(columns, change) => columns.iter().for_each(|&at| fields[at] = change(&fields[at])),
+            Slip::Field(columns, change) => columns
+                .iter()
+                .for_each(|&at| fields[at] = change(&fields[at])),
             _ => {}
         }
         fields.join(match self {

@@ -1,4 +1,4 @@
-//! What can be wrong about a pitch beside its rules (that is in `wrong`): what a refused call answers, and single entries.
+//! What can be wrong about a pitch beside its rules (that is in `wrong`): what a refused call answers, single entries.
 
 use crate::library;
 use crate::pitches::Call;
@@ -29,18 +29,30 @@ pub const SLIPS: &[(&str, Slip)] = &[
 ];
 
 fn refused(answer: PitchAnswer, other: PitchAnswer) -> PitchAnswer {
-    if answer.number == 0 { answer } else { other }
+    if answer.number == 0 {
+        answer
+    } else {
+        other
+    }
 }
 
 fn accepted(answer: PitchAnswer, other: PitchAnswer) -> PitchAnswer {
-    if answer.number == 0 { other } else { answer }
+    if answer.number == 0 {
+        other
+    } else {
+        answer
+    }
 }
 
 /// What a refused call would give.
 fn computed((key, sensitivity, bend): Call) -> PitchAnswer {
     let bent = 16 * i32::from(sensitivity) * (i32::from(bend) - 8192);
     let Pitch { octave, entry } = Pitch::at(16 * i32::from(key) + bent.div_euclid(8192));
-    PitchAnswer { entry, octave, number: 0 }
+    PitchAnswer {
+        entry,
+        octave,
+        number: 0,
+    }
 }
 
 /// The answer of a table with one entry so much higher.
@@ -53,11 +65,22 @@ pub fn with_another_entry(answer: PitchAnswer, at: usize, more: i32) -> PitchAns
 }
 
 /// The pitch by the fault that is being made, and this slip.
-pub fn pitch(call: Call, slip: impl Fn(Call, PitchAnswer) -> PitchAnswer) -> Given<Result<Pitch, Number>> {
+pub fn pitch(
+    call: Call,
+    slip: impl Fn(Call, PitchAnswer) -> PitchAnswer,
+) -> Given<Result<Pitch, Number>> {
     let (key, sensitivity, bend) = call;
     let answer = match wrong::pitch(key, sensitivity, bend) {
-        Ok(wrong::Pitch { octave, entry }) => PitchAnswer { entry, octave, number: 0 },
-        Err(number) => PitchAnswer { entry: 65536, octave: 0, number: number as u8 },
+        Ok(wrong::Pitch { octave, entry }) => PitchAnswer {
+            entry,
+            octave,
+            number: 0,
+        },
+        Err(number) => PitchAnswer {
+            entry: 65536,
+            octave: 0,
+            number: number as u8,
+        },
     };
     library::pitch_of(slip(call, answer))
 }

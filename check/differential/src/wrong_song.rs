@@ -1,8 +1,8 @@
 //! What can be wrong about the hardest song beside its rules (that is in `wrong`): the call, what a refusal answers and
 //! leaves, what is written where, and the count.
 //!
-//! The thefts that are answered are counted while playing, or just those of the formula: a library that does not play its
-//! song must be found too.
+//! The thefts that are answered are counted while playing, or just those of the formula: a library that does not play
+//! its song must be found too.
 
 use crate::hardest_song::{Call, Memory};
 use crate::reference;
@@ -49,7 +49,9 @@ pub const SLIPS: &[(&str, Slip)] = &[
     ("NHeldAt65536", Slip::Taken(|call| Call { n: call.n.min(LONGEST_SONG), ..call })),
     ("NHeldAtTheLength", Slip::Taken(|call| Call { n: call.n.min(call.length), ..call })),
     // What a refusal answers.
-    ("RefusedWithTheFormula", Slip::Refused(|call, number| SongAnswer { thefts: formula(call.polyphony, call.n.min(LONGEST_SONG)), number })),
+    ("RefusedWithTheFormula", Slip::Refused(|call, number| {
+        SongAnswer { thefts: formula(call.polyphony, call.n.min(LONGEST_SONG)), number }
+    })),
     ("RefusedWithOneTheft", Slip::Refused(|_, number| SongAnswer { thefts: 1, number })),
     ("RefusedPWithOneTheft", Slip::Refused(|_, number| SongAnswer { thefts: u32::from(number == 1), number })),
     ("RefusedNWithOneTheft", Slip::Refused(|_, number| SongAnswer { thefts: u32::from(number == 25), number })),
@@ -79,11 +81,15 @@ pub const SLIPS: &[(&str, Slip)] = &[
     ("ByteBehindWrittenAtNumber25", Slip::Leaves(25, |call, memory| memory.write(call.length as isize, 0x40))),
     // What is written.
     ("NthByteWritten", Slip::More(|call, memory| memory.write(call.n as isize, 0x40))),
-    ("NthByteWrittenIfTheBufferHasIt", Slip::More(|call, memory| if call.n < call.length { memory.write(call.n as isize, 0x40) })),
+    ("NthByteWrittenIfTheBufferHasIt", Slip::More(|call, memory| if call.n < call.length {
+        memory.write(call.n as isize, 0x40)
+    })),
     ("ByteBeforeTheBufferWritten", Slip::More(|_, memory| memory.write(-1, 0x90))),
     ("ByteBehindTheBufferWritten", Slip::More(|call, memory| memory.write(call.length as isize, 0x40))),
     ("FarByteWritten", Slip::More(|call, memory| memory.write(call.length as isize + 1000, 0x40))),
-    ("LastByteOfTheBufferWritten", Slip::More(|call, memory| if call.n < call.length { memory.write(call.length as isize - 1, 0x40) })),
+    ("LastByteOfTheBufferWritten", Slip::More(|call, memory| if call.n < call.length {
+        memory.write(call.length as isize - 1, 0x40)
+    })),
     ("RestOfTheBufferCleared", Slip::More(|call, memory| memory.buffer()[call.n..].fill(0))),
     ("WholeBufferFilled", Slip::More(|call, memory| put_what_fits(Call { n: call.length, ..call }, memory))),
     ("NothingWritten", Slip::Put(|_, _| None)),
@@ -99,16 +105,19 @@ pub const SLIPS: &[(&str, Slip)] = &[
     ("OneTheftMoreInTheLongest", Slip::Thefts(|call, counted| counted + u32::from(call.n == LONGEST_SONG))),
     ("OneTheftLessInTheLongest", Slip::Thefts(|call, counted| counted - u32::from(call.n == LONGEST_SONG))),
     ("OneTheftWhereThereIsNone", Slip::Thefts(|_, counted| counted.max(1))),
-    ("NoTheftInTheFirstSongThatHasOne", Slip::Thefts(|call, counted| if call.n == 2 * usize::from(call.polyphony) + 3 { 0 } else { counted })),
-    ("StatusNotCounted", Slip::Thefts(|call, _| (call.n / 2).saturating_sub(call.polyphony.into()) as u32)),
-    ("StatusCountedTwice", Slip::Thefts(|call, _| (call.n.saturating_sub(2) / 2).saturating_sub(call.polyphony.into()) as u32)),
+    ("NoTheftInTheFirstSongThatHasOne", Slip::Thefts(|call, counted| match counted {
+        1 if call.n % 2 == 1 => 0,
+        _ => counted,
+    })),
+    ("StatusNotCounted", Slip::Thefts(|call, _| formula(call.polyphony, call.n + 1))),
+    ("StatusCountedTwice", Slip::Thefts(|call, _| formula(call.polyphony, call.n.saturating_sub(1)))),
     ("OneGeneratorLess", Slip::Generators(|polyphony| polyphony.max(2) - 1)),
     ("OneGeneratorMore", Slip::Generators(|polyphony| polyphony.min(63) + 1)),
     ("P1ForEveryP", Slip::Generators(|_| 1)),
     ("P64ForEveryP", Slip::Generators(|_| 64)),
-    ("EveryNoteCounted", Slip::Thefts(|call, _| (call.n.saturating_sub(1) / 2) as u32)),
-    ("NegativeWraps", Slip::Thefts(|call, _| (call.n.saturating_sub(1) / 2).wrapping_sub(call.polyphony.into()) as u32)),
-    ("NegativeIsOne", Slip::Thefts(|call, counted| if call.n.saturating_sub(1) / 2 < call.polyphony.into() { 1 } else { counted })),
+    ("EveryNoteCounted", Slip::Thefts(|call, _| notes(call))),
+    ("NegativeWraps", Slip::Thefts(|call, _| notes(call).wrapping_sub(call.polyphony.into()))),
+    ("NegativeIsOne", Slip::Thefts(|call, counted| if notes(call) < call.polyphony.into() { 1 } else { counted })),
     ("NothingIsAllBits", Slip::Thefts(|call, counted| if call.n == 0 { u32::MAX } else { counted })),
     ("TheftsInEightBits", Slip::Thefts(|_, counted| counted % 256)),
     ("TheftsInFourteenBits", Slip::Thefts(|_, counted| counted % (1 << 14))),
@@ -136,13 +145,18 @@ fn formula(polyphony: u8, n: usize) -> u32 {
     most_thefts(polyphony, n) as u32
 }
 
+/// The notes of a song.
+fn notes(call: Call) -> u32 {
+    (call.n.saturating_sub(1) / 2) as u32
+}
+
 /// A song for P 1, as far as the buffer has room.
 fn put_what_fits(call: Call, memory: &mut Memory) {
     let _ = wrong::write_song(1, call.n.min(call.length), memory.buffer());
 }
 
-/// A song by the fault that is being made, and this slip, counted so. The answer is in the header's form, so that one that
-/// has no meaning can be given too.
+/// A song by the fault that is being made, and this slip, counted so. The answer is in the header's form, so that one
+/// that has no meaning can be given too.
 pub fn write(slip: Option<Slip>, count: Count, call: Call, memory: &mut Memory) -> SongAnswer {
     let call = match slip {
         Some(Slip::Taken(taken)) => taken(call),
@@ -159,7 +173,11 @@ pub fn write(slip: Option<Slip>, count: Count, call: Call, memory: &mut Memory) 
             put(slip, call, &song, memory);
             SongAnswer {
                 thefts: thefts(slip, count, call, (&song, played)),
-                number: if let Some(Slip::Number(number)) = slip { number } else { 0 },
+                number: if let Some(Slip::Number(number)) = slip {
+                    number
+                } else {
+                    0
+                },
             }
         }
         Err(number) => {
@@ -191,8 +209,12 @@ fn put(slip: Option<Slip>, call: Call, song: &[u8], memory: &mut Memory) {
 
 fn thefts(slip: Option<Slip>, count: Count, call: Call, (song, played): (&[u8], u32)) -> u32 {
     let counted = match (slip, count) {
-        (Some(Slip::Generators(other)), Count::ByPlaying) => reference::thefts(other(call.polyphony), song),
-        (Some(Slip::Generators(other)), Count::ByTheFormula) => formula(other(call.polyphony), call.n),
+        (Some(Slip::Generators(other)), Count::ByPlaying) => {
+            reference::thefts(other(call.polyphony), song)
+        }
+        (Some(Slip::Generators(other)), Count::ByTheFormula) => {
+            formula(other(call.polyphony), call.n)
+        }
         (_, Count::ByPlaying) => played,
         (_, Count::ByTheFormula) => formula(call.polyphony, call.n),
     };

@@ -25,10 +25,13 @@ pub fn sine(place: f64) -> f64 {
 /// The starting order, from 1.
 pub const STARTING: [u8; 16] = [10, 1, 2, 3, 4, 5, 6, 7, 8, 9, 11, 12, 13, 14, 15, 16];
 
-/// The first sixteen channels of an order if it is accepted; 0 where there are none, but the one missing channel of fifteen.
+/// The first sixteen channels of an order if it is accepted; 0 where there are none, but the missing one of fifteen.
 pub fn sixteen(order: &[u8], accepted: bool) -> Option<[u8; 16]> {
-    let missing = (1..=16).find(|channel| !order.contains(channel)).filter(|_| order.len() == 15);
-    accepted.then(|| std::array::from_fn(|place| order.get(place).copied().or(missing).unwrap_or(0)))
+    let missing = (1..=16)
+        .find(|channel| !order.contains(channel))
+        .filter(|_| order.len() == 15);
+    accepted
+        .then(|| std::array::from_fn(|place| order.get(place).copied().or(missing).unwrap_or(0)))
 }
 
 /// Is each channel there once?
@@ -38,7 +41,10 @@ pub fn once(order: &[u8]) -> bool {
 
 /// A line without this byte.
 pub fn without(line: &[u8], byte: u8) -> Vec<u8> {
-    line.iter().copied().filter(|&other| other != byte).collect()
+    line.iter()
+        .copied()
+        .filter(|&other| other != byte)
+        .collect()
 }
 
 pub fn digits(line: &[u8]) -> Vec<u8> {
@@ -48,14 +54,18 @@ pub fn digits(line: &[u8]) -> Vec<u8> {
 /// A number without leading zeros, of any size that matters.
 pub fn number(digits: &[u8]) -> Option<u128> {
     let right = (1..=30).contains(&digits.len()) && digits.iter().all(u8::is_ascii_digit);
-    let number = digits.iter().fold(0, |number, digit| 10 * number + u128::from(digit.wrapping_sub(b'0')));
+    let number = digits.iter().fold(0, |number, digit| {
+        10 * number + u128::from(digit.wrapping_sub(b'0'))
+    });
     (right && (digits[0] != b'0' || digits.len() == 1)).then_some(number)
 }
 
 /// Does this byte end a SysEx of these bytes?
 pub fn ends(device: &Device, event: Event, bytes: &[u8]) -> bool {
     let parser = device.parser();
-    event == Event::Byte(0xF7) && parser.progress() == Progress::SysEx && parser.sysex().kept() == bytes
+    event == Event::Byte(0xF7)
+        && parser.progress() == Progress::SysEx
+        && parser.sysex().kept() == bytes
 }
 
 /// Is the last SysEx a MIP message for P 64 and ID 0?
@@ -75,16 +85,24 @@ pub fn mip_under_way(device: &Device, event: Event, bytes: usize) -> bool {
 }
 
 pub fn is_busy(device: &Device, generator: u8) -> bool {
-    device.generator(generator).is_ok_and(|view| matches!(view.state, State::Held | State::Sustained))
+    device
+        .generator(generator)
+        .is_ok_and(|view| matches!(view.state, State::Held | State::Sustained))
 }
 
 pub fn is_idle(device: &Device, generator: u8) -> bool {
-    device.generator(generator).is_ok_and(|view| view.state == State::Idle)
+    device
+        .generator(generator)
+        .is_ok_and(|view| view.state == State::Idle)
 }
 
 /// How many generators of a channel, from 1, are counted by this rule.
 pub fn count(device: &Device, channel: u8, counts: impl Fn(GeneratorView, u8) -> bool) -> u8 {
-    let of_channel = |&g: &u8| device.generator(g).is_ok_and(|view| view.channel == channel && counts(view, g));
+    let of_channel = |&g: &u8| {
+        device
+            .generator(g)
+            .is_ok_and(|view| view.channel == channel && counts(view, g))
+    };
     (0..64).filter(of_channel).count() as u8
 }
 
@@ -107,17 +125,32 @@ pub fn behind(first: &[u8], place: usize, song: fn(usize) -> u8) -> u8 {
 /// The same if so many drums come first, of keys in no group.
 pub fn behind_drums(drums: u8, place: usize, song: fn(usize) -> u8) -> u8 {
     let drums = (0..drums).flat_map(|drum| [82 + drum % 46, 0x40]);
-    behind(&[0x99].into_iter().chain(drums).collect::<Vec<u8>>(), place, song)
+    behind(
+        &[0x99].into_iter().chain(drums).collect::<Vec<u8>>(),
+        place,
+        song,
+    )
 }
 
 /// The value at a place of the table, from 0; 0 where there is none.
 pub fn value(device: &Device, place: i16) -> u8 {
-    let entry = usize::try_from(place).ok().and_then(|place| device.table().entries().get(place));
+    let entry = usize::try_from(place)
+        .ok()
+        .and_then(|place| device.table().entries().get(place));
     entry.map_or(0, |entry| entry.value)
+}
+
+/// The value before that of a place, from 1; 0 before the first.
+pub fn before(device: &Device, place: u8) -> u8 {
+    value(device, i16::from(place) - 2)
 }
 
 /// The value of a channel on the wire; 0 if it is not listed.
 pub fn value_of_channel(device: &Device, wire: u8) -> u8 {
-    let entry = device.table().entries().iter().find(|entry| entry.channel == wire);
+    let entry = device
+        .table()
+        .entries()
+        .iter()
+        .find(|entry| entry.channel == wire);
     entry.map_or(0, |entry| entry.value)
 }
