@@ -1,8 +1,9 @@
 //! Shows that the comparison of logs can fail: wrong forms of ticket 1 must be found, and messages that a device does not take.
 
 use crate::arranging::{Comparison, Readers};
-use crate::arranging_sides::Arranger;
-use crate::plain_log::{PlainLog, WrongWhole, MISTAKES, RECORD_ALONE};
+use crate::arranging_sides::{Arranger, Reference};
+use crate::self_test::{variants, Variant};
+use crate::wrong_log::{Slip, WrongLog, WrongWhole, RECORD_SLIPS, SLIPS};
 
 /// Every wrong variant must be found within so many logs, as many as a run has.
 const WITHIN: u64 = 60_000;
@@ -13,33 +14,43 @@ const RIGHT: u64 = 40_000;
 pub fn run(seed: u64) -> Vec<String> {
     let readers = Readers::new(seed);
     let mut complaints = Vec::new();
-    let mut right = Comparison::new(PlainLog::new(None), &readers);
+    let mut right = Comparison::new(WrongLog::new(None), &readers);
     if let Err(found) = right.run(seed, RIGHT) {
         complaints.push(format!("no mistake about logs at all: {found}"));
     }
-    for &mistake in MISTAKES {
-        let wrong = Comparison::new(PlainLog::new(Some(mistake)), &readers);
-        complaints.extend(must_be_found(&format!("{mistake:?}"), wrong, seed));
-        if !RECORD_ALONE.contains(&mistake) {
-            let name = format!("{mistake:?} in whole logs alone");
-            let wrong = Comparison::new(WrongWhole::new(mistake), &readers);
-            complaints.extend(must_be_found(&name, wrong, seed));
-        }
+    let logs = variants(wrong::LOG, SLIPS);
+    let record_alone = variants(wrong::LOG_RECORD, RECORD_SLIPS);
+    for variant in logs.iter().chain(&record_alone) {
+        let wrong = |slip| Comparison::new(WrongLog::new(slip), &readers);
+        complaints.extend(must_be_found(variant.name, variant, wrong, seed));
+    }
+    for variant in &logs {
+        let name = format!("{} in whole logs alone", variant.name);
+        let wrong = |slip| {
+            let (right, wrong) = (Reference::new(), WrongLog::new(slip));
+            Comparison::new(WrongWhole { right, wrong }, &readers)
+        };
+        complaints.extend(must_be_found(&name, variant, wrong, seed));
     }
     complaints.extend(wrong_messages(&readers, seed));
     if complaints.is_empty() {
         println!(
             "{} mistakes about logs: each found, and {} of them in whole logs alone",
-            MISTAKES.len(),
-            MISTAKES.len() - RECORD_ALONE.len()
+            logs.len() + record_alone.len(),
+            logs.len()
         );
     }
     complaints
 }
 
 /// Prints what was found of a wrong variant; a complaint if it was nothing or something else.
-fn must_be_found(name: &str, mut wrong: Comparison<impl Arranger>, seed: u64) -> Option<String> {
-    match wrong.run(seed, WITHIN) {
+fn must_be_found<'a, Side: Arranger>(
+    name: &str,
+    variant: &Variant<Slip>,
+    wrong: impl Fn(Option<Slip>) -> Comparison<'a, Side>,
+    seed: u64,
+) -> Option<String> {
+    match wrong::making(variant.fault, || wrong(variant.slip).run(seed, WITHIN)) {
         Err(found) if found.starts_with("log: ") => {
             println!("{name}: found, {found}");
             None

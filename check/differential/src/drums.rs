@@ -1,4 +1,4 @@
-//! The exclusive groups of channel 10, as the book and the plain implementation read them.
+//! The exclusive groups of channel 10, as the book reads them.
 
 /// Channel 10 on the wire.
 pub const DRUM_CHANNEL: u8 = 9;

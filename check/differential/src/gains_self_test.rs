@@ -2,7 +2,8 @@
 //! numbers of a channel must be found; and that it does not ask for more than the ticket does.
 
 use crate::channel_gains::{EXPRESSION, NAMES, PAN, THREE, VOLUME};
-use crate::plain_gains::{PlainGains, MISTAKES, WEIGHTS};
+use crate::self_test::{variants, Variant};
+use crate::wrong_gains::{right, with_another_weight, with_millionths, SLIPS, WEIGHTS};
 use crate::{channel_gains, gains, library, reference};
 use proved::{Channel, GainsAnswer};
 use random::Random;
@@ -10,9 +11,10 @@ use random::Random;
 /// Runs all of it and says what was not as it should be; nothing if all is well.
 pub fn run(seed: u64) -> Vec<String> {
     let mut complaints = Vec::new();
-    for &mistake in MISTAKES {
-        let found = difference(&PlainGains::new(Some(mistake)));
-        complaints.extend(expect(&format!("{mistake:?}"), found, "gains: "));
+    for Variant { name, fault, slip } in variants(wrong::GAINS, SLIPS) {
+        let slip = slip.unwrap_or(|_, answer| answer);
+        let found = wrong::making(fault, || difference(|call| slip(call, right(call))));
+        complaints.extend(expect(name, found, "gains: "));
     }
     complaints.extend(distances());
     complaints.extend(wrong_weights());
@@ -21,9 +23,9 @@ pub fn run(seed: u64) -> Vec<String> {
     complaints
 }
 
-/// What the comparison finds of a plain form, over all calls.
-fn difference(plain: &PlainGains) -> Option<String> {
-    let wrong = |call| library::gains_of(plain.answer(call));
+/// What the comparison finds of wrong gains, over all calls.
+fn difference(wrong: impl Fn(gains::Call) -> GainsAnswer) -> Option<String> {
+    let wrong = |call| library::gains_of(wrong(call));
     gains::compare(gains::all(), reference::gains, wrong).err()
 }
 
@@ -44,7 +46,7 @@ fn distances() -> Vec<String> {
     let wrong = [(1.5, 0.0), (-1.5, 0.0), (0.0, 1.5), (0.0, -1.5)].map(|more| (more, true));
     let case = |((left, right), is_wrong): ((f64, f64), bool)| {
         let name = format!("{left} millionths more left, {right} right");
-        let found = difference(&PlainGains::new(None).off_by(left, right));
+        let found = difference(|call| with_millionths(call, left, right));
         match is_wrong {
             true => expect(&name, found, "gains: "),
             false => found.map(|found| format!("{name}: {found}")),
@@ -59,8 +61,7 @@ fn wrong_weights() -> Vec<String> {
     let sides = moved.flat_map(|(at, more)| [(true, at, more), (false, at, more)]);
     let missed: Vec<String> = sides
         .filter(|&(is_left, at, more)| {
-            let wrong = PlainGains::new(None).with_another_weight(is_left, at, more);
-            difference(&wrong).is_none()
+            difference(|call| with_another_weight(call, (is_left, at, more))).is_none()
         })
         .map(|(is_left, at, more)| {
             format!("weight {at} with {more} added, left: {is_left}: not found")
@@ -80,18 +81,14 @@ fn channel_difference(seed: u64, wrong: impl Fn(Channel) -> GainsAnswer) -> Opti
 }
 
 /// A call that takes expression, volume and pan from these places.
-fn taken_from(
-    plain: &PlainGains,
-    [expression, volume, pan]: [usize; 3],
-) -> impl Fn(Channel) -> GainsAnswer + '_ {
-    move |channel| plain.answer((channel[expression], channel[volume], channel[pan]))
+fn taken_from([expression, volume, pan]: [usize; 3]) -> impl Fn(Channel) -> GainsAnswer {
+    move |channel| right((channel[expression], channel[volume], channel[pan]))
 }
 
 /// Each of the three numbers taken from each other place, and two of them exchanged. Expression and volume count alike,
 /// so that to exchange them is no difference.
 fn wrong_places(seed: u64) -> Vec<String> {
-    let plain = PlainGains::new(None);
-    let find = |places| channel_difference(seed, taken_from(&plain, places));
+    let find = |places| channel_difference(seed, taken_from(places));
     let mut complaints: Vec<String> = [THREE, [VOLUME, EXPRESSION, PAN]]
         .into_iter()
         .filter_map(|places| find(places).map(|found| format!("places {places:?}: {found}")))
@@ -115,22 +112,21 @@ fn wrong_places(seed: u64) -> Vec<String> {
 /// Each of the other eight numbers, as one that is refused above 127, and as one that makes a difference below the
 /// bound.
 fn others_that_count(seed: u64) -> Vec<String> {
-    let (plain, softer) = (
-        PlainGains::new(None),
-        PlainGains::new(None).off_by(-0.5, -0.5),
-    );
-    let right = taken_from(&plain, THREE);
-    let soft = taken_from(&softer, THREE);
+    let unchanged = taken_from(THREE);
+    let soft = |channel: Channel| {
+        let [expression, volume, pan] = THREE.map(|place| channel[place]);
+        with_millionths((expression, volume, pan), -0.5, -0.5)
+    };
     let others = (0..11).filter(|place| !THREE.contains(place));
     others
         .flat_map(|place| {
             let refused = channel_difference(seed, |channel| match channel[place] {
-                128.. => plain.answer((255, 255, 255)),
-                _ => right(channel),
+                128.. => right((255, 255, 255)),
+                _ => unchanged(channel),
             });
             let odd = channel_difference(seed, |channel| match channel[place] % 2 {
                 1 => soft(channel),
-                _ => right(channel),
+                _ => unchanged(channel),
             });
             let name = NAMES[place];
             [

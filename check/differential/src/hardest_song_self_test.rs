@@ -3,62 +3,69 @@
 
 use crate::hardest_song::{calls, compare, few_calls, short, Call, HeldAgainst};
 use crate::most_thefts;
-use crate::plain_song::{Count, Mistake, PlainSong, FREE, MISTAKES};
+use crate::self_test::{variants, Variant};
+use crate::wrong_song::{write, Count, Slip, FREE_SLIPS, SLIPS};
 
 /// Runs all of it and says what was not as it should be; nothing if all is well.
 pub fn run(seed: u64) -> Vec<String> {
     let mut complaints = Vec::new();
+    let (wrong, free) = (
+        variants(wrong::SONG, SLIPS),
+        variants(wrong::FREE_SONG, FREE_SLIPS),
+    );
     for count in [Count::ByPlaying, Count::ByTheFormula] {
-        complaints.extend(must_pass(None, count, HeldAgainst::DocumentedBytes));
-        for &mistake in MISTAKES {
-            let against = match FREE.contains(&mistake) {
-                false => HeldAgainst::Ticket,
-                true => HeldAgainst::DocumentedBytes,
-            };
-            complaints.extend(must_be_found(mistake, count, against));
+        complaints.extend(must_pass(RIGHT, count, HeldAgainst::DocumentedBytes));
+        for &variant in &wrong {
+            complaints.extend(must_be_found(variant, count, HeldAgainst::Ticket));
+        }
+        for &variant in &free {
+            complaints.extend(must_be_found(variant, count, HeldAgainst::DocumentedBytes));
         }
     }
-    for mistake in FREE {
-        complaints.extend(must_pass(
-            Some(mistake),
-            Count::ByPlaying,
-            HeldAgainst::Ticket,
-        ));
+    for variant in free {
+        complaints.extend(must_pass(variant, Count::ByPlaying, HeldAgainst::Ticket));
     }
     complaints.extend(wrong_bounds(seed));
     complaints
 }
 
-/// What these calls find of a plain form.
+const RIGHT: Variant<Slip> = Variant {
+    name: "no mistake",
+    fault: None,
+    slip: None,
+};
+
+/// What these calls find of a variant.
 fn difference(
     calls: impl Iterator<Item = Call>,
-    (mistake, count): (Option<Mistake>, Count),
+    (variant, count): (Variant<Slip>, Count),
     against: HeldAgainst,
 ) -> Option<String> {
-    let plain = PlainSong { mistake, count };
-    compare(calls, against, |call, memory| plain.write(call, memory)).err()
+    let wrong = |call, memory: &mut _| write(variant.slip, count, call, memory);
+    wrong::making(variant.fault, || compare(calls, against, wrong).err())
 }
 
 /// A complaint where something is found, by calls that are not all, since nothing ends them early.
-fn must_pass(mistake: Option<Mistake>, count: Count, against: HeldAgainst) -> Option<String> {
+fn must_pass(variant: Variant<Slip>, count: Count, against: HeldAgainst) -> Option<String> {
     let calls = few_calls().chain([1, 64].into_iter().flat_map(short));
-    let found = difference(calls, (mistake, count), against)?;
-    Some(format!("{mistake:?} must pass, counted {count:?}: {found}"))
+    let found = difference(calls, (variant, count), against)?;
+    let name = variant.name;
+    Some(format!("{name} must pass, counted {count:?}: {found}"))
 }
 
 /// Prints what was found of a wrong variant; a complaint if it was nothing or something else.
-fn must_be_found(mistake: Mistake, count: Count, against: HeldAgainst) -> Option<String> {
-    let part = match against {
-        HeldAgainst::Ticket => "",
-        HeldAgainst::DocumentedBytes => "in the documented song",
+fn must_be_found(variant: Variant<Slip>, count: Count, against: HeldAgainst) -> Option<String> {
+    let (name, part) = match against {
+        HeldAgainst::Ticket => (variant.name, ""),
+        HeldAgainst::DocumentedBytes => (variant.name, "in the documented song"),
     };
-    match difference(calls(), (Some(mistake), count), against) {
+    match difference(calls(), (variant, count), against) {
         Some(found) if found.starts_with("song: ") && found.contains(part) => {
-            println!("{mistake:?}, counted {count:?}: found, {found}");
+            println!("{name}, counted {count:?}: found, {found}");
             None
         }
         found => Some(format!(
-            "{mistake:?}, counted {count:?}: expected \"song: .. {part}\", found {found:?}"
+            "{name}, counted {count:?}: expected \"song: .. {part}\", found {found:?}"
         )),
     }
 }

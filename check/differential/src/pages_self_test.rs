@@ -2,9 +2,9 @@
 //! only the ticket's limit, the memory, the queries and the book can find them.
 
 use crate::compare::{Comparison, Failure};
-use crate::plain::Plain;
-use crate::plain_page::{PlainPage, MISTAKES};
-use crate::reference;
+use crate::self_test::{variants, Variant};
+use crate::wrong_page::{Slip, SLIPS};
+use crate::{reference, wrong_device};
 use paper::PAGE_BYTES;
 
 /// Every wrong variant must be found within so many events.
@@ -25,14 +25,11 @@ const FINDERS: [(&str, &str); 7] = [
 pub fn run(seed: u64) -> Vec<String> {
     let mut complaints = Vec::new();
     let mut finders = [0; FINDERS.len()];
-    for &mistake in MISTAKES {
-        let wrong = PlainPage {
-            mistake: Some(mistake),
-            other_byte: None,
-        };
-        let name = format!("{mistake:?}");
-        complaints.extend(must_be_found(&name, one_side(wrong, seed)));
-        let found = both_sides(wrong, seed);
+    let variants = variants(wrong::PAGE, SLIPS);
+    for &variant in &variants {
+        let name = variant.name;
+        complaints.extend(must_be_found(name, one_side(variant, seed)));
+        let found = both_sides(variant, seed);
         let finder = found.as_ref().and_then(|failure| finder(&failure.what));
         finder.into_iter().for_each(|finder| finders[finder] += 1);
         complaints.extend(must_be_found(&format!("{name} on both sides"), found));
@@ -45,7 +42,7 @@ pub fn run(seed: u64) -> Vec<String> {
         let rows: Vec<String> = rows.map(|((_, name), n)| format!("{n} {name}")).collect();
         println!(
             "{} mistakes about pages: each found; on both sides {}",
-            MISTAKES.len(),
+            variants.len(),
             rows.join(", ")
         );
     }
@@ -60,9 +57,10 @@ fn finder(what: &str) -> Option<usize> {
 /// Each byte of the page one higher.
 fn wrong_bytes(seed: u64) -> Vec<String> {
     let missed = |at: &usize| {
-        let wrong = PlainPage {
-            mistake: None,
-            other_byte: Some(*at),
+        let wrong = Variant {
+            name: "one byte",
+            fault: None,
+            slip: Some(Slip::Byte(*at)),
         };
         let found = [one_side(wrong, seed), both_sides(wrong, seed)];
         !found.iter().all(|found| is_of_a_page(found.as_ref()))
@@ -77,24 +75,24 @@ fn wrong_bytes(seed: u64) -> Vec<String> {
     missed
 }
 
-fn one_side(page: PlainPage, seed: u64) -> Option<Failure> {
+fn one_side(variant: Variant<Slip>, seed: u64) -> Option<Failure> {
     let comparison = Comparison {
         start_a: reference::start,
-        start_b: |polyphony, id| Plain::with_page(page, polyphony, id),
+        start_b: |polyphony, id| wrong_device::start_with_page(variant.slip, polyphony, id),
         slip: None,
         pages: true,
     };
-    comparison.run(seed, WITHIN).1
+    wrong::making(variant.fault, || comparison.run(seed, WITHIN).1)
 }
 
-fn both_sides(page: PlainPage, seed: u64) -> Option<Failure> {
+fn both_sides(variant: Variant<Slip>, seed: u64) -> Option<Failure> {
     let comparison = Comparison {
-        start_a: |polyphony, id| Plain::with_page(page, polyphony, id),
-        start_b: |polyphony, id| Plain::with_page(page, polyphony, id),
+        start_a: |polyphony, id| wrong_device::start_with_page(variant.slip, polyphony, id),
+        start_b: |polyphony, id| wrong_device::start_with_page(variant.slip, polyphony, id),
         slip: None,
         pages: true,
     };
-    comparison.run(seed, WITHIN).1
+    wrong::making(variant.fault, || comparison.run(seed, WITHIN).1)
 }
 
 fn is_of_a_page(found: Option<&Failure>) -> bool {

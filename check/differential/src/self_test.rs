@@ -2,52 +2,78 @@
 
 use crate::book::{Slip, SLIPS, WRONG_BOUNDS};
 use crate::compare::{Comparison, Failure};
-use crate::plain::{Mistake, Plain, MISTAKES};
-use crate::plain_pitch::{self, PlainPitch};
+use crate::record::Given;
 use crate::{
-    arranging_self_test, gains_self_test, hardest_song_self_test, library, pages_self_test,
-    pitches, reference,
+    arranging_self_test, gains_self_test, hardest_song_self_test, pages_self_test, pitches,
+    reference, wrong_device, wrong_pitch,
 };
+use paper::{Number, Pitch};
 use random::Random;
+use wrong::Fault;
 
 /// Every wrong variant must be found within so many events, without a look at pages: those have a self-test of their own.
 const WITHIN: u64 = 1_000_000;
 
 /// Mistakes that both sides make alike: the comparison cannot see them, the claims must.
-const SHARED: [(Mistake, &str); 9] = [
-    (Mistake::ReportIgnored, "the book has"),
-    (Mistake::DrumNoteOffHeard, "the book has"),
-    (Mistake::MaskedGeneratorsGoOn, "the book has"),
-    (Mistake::SameKeyGoesOn, "demand 3"),
-    (Mistake::CumulativeValueAsShare, "yet its note-on"),
-    (Mistake::OldestOfAllStolen, "leaves as stolen"),
-    (
-        Mistake::ReleasingNeverTaken,
-        "although a generator was free",
-    ),
-    (Mistake::ReleaseRenewsAge, "its last note came later"),
-    (Mistake::SilentKeepsAge, "order of age: it has"),
+const SHARED: [(&str, &str); 9] = [
+    ("ReportIgnored", "the book has"),
+    ("DrumNoteOffHeard", "the book has"),
+    ("MaskedGeneratorsGoOn", "the book has"),
+    ("SameKeyGoesOn", "demand 3"),
+    ("CumulativeValueAsShare", "yet its note-on"),
+    ("OldestOfAllStolen", "leaves as stolen"),
+    ("ReleasingNeverTaken", "although a generator was free"),
+    ("ReleaseRenewsAge", "its last note came later"),
+    ("SilentKeepsAge", "order of age: it has"),
 ];
+
+/// A wrong variant: by a fault of paper's rules, by a slip beside them, or by both.
+#[derive(Clone, Copy)]
+pub struct Variant<Slip> {
+    pub name: &'static str,
+    pub fault: Option<Fault>,
+    pub slip: Option<Slip>,
+}
+
+/// The variants of these faults and slips; those of one name are one.
+pub fn variants<Slip: Copy>(
+    faults: &[Fault],
+    slips: &[(&'static str, Slip)],
+) -> Vec<Variant<Slip>> {
+    let slip = |name| slips.iter().find(|row| row.0 == name).map(|row| row.1);
+    let variant = |name, fault| Variant {
+        name,
+        fault,
+        slip: slip(name),
+    };
+    let by_fault = faults.iter().map(|&fault| variant(fault.name, Some(fault)));
+    let alone = slips.iter().map(|row| row.0);
+    let alone = alone.filter(|&name| faults.iter().all(|fault| fault.name != name));
+    by_fault
+        .chain(alone.map(|name| variant(name, None)))
+        .collect()
+}
 
 /// Runs all of it and says what was not found; nothing if all is well.
 pub fn run(seed: u64) -> Vec<String> {
     let mut complaints = Vec::new();
     let right = Comparison {
         start_a: reference::start,
-        start_b: |polyphony, id| Plain::start(None, polyphony, id),
+        start_b: wrong_device::start,
         slip: None,
         pages: true,
     };
     if let (_, Some(failure)) = right.run(seed, WITHIN) {
         complaints.push(format!("no mistake at all: {failure}"));
     }
-    for &mistake in MISTAKES {
-        let name = format!("{mistake:?}");
-        complaints.extend(expect(&name, "", one_side(mistake, seed)));
+    let devices = variants(wrong::DEVICE, &wrong_device::GAINS_SLIPS);
+    for variant in &devices {
+        complaints.extend(expect(variant.name, "", one_side(variant, seed)));
     }
-    for (mistake, claim) in SHARED {
-        let name = format!("{mistake:?} on both sides");
-        complaints.extend(expect(&name, claim, both_sides(mistake, seed)));
+    for (name, claim) in SHARED {
+        let variant = devices.iter().find(|variant| variant.name == name);
+        let found = variant.and_then(|variant| both_sides(variant, seed));
+        complaints.extend(expect(&format!("{name} on both sides"), claim, found));
     }
     for slip in SLIPS {
         let name = format!("book without {slip:?}");
@@ -66,18 +92,19 @@ pub fn run(seed: u64) -> Vec<String> {
     complaints
 }
 
-/// Every mistake about pitches, on one side.
+/// Every wrong variant of a pitch, on one side.
 fn wrong_pitches(seed: u64) -> Vec<String> {
     let mut complaints = Vec::new();
-    if let Some(found) = pitch_difference(PlainPitch::new(None), seed) {
+    let right = |call| wrong_pitch::pitch(call, |_, answer| answer);
+    if let Some(found) = pitch_difference(right, seed) {
         complaints.push(format!("no mistake at all: {found}"));
     }
-    for &mistake in plain_pitch::MISTAKES {
-        match pitch_difference(PlainPitch::new(Some(mistake)), seed) {
-            Some(found) if found.starts_with("pitch: ") => println!("{mistake:?}: found, {found}"),
-            found => complaints.push(format!(
-                "{mistake:?}: expected \"pitch: \", found {found:?}"
-            )),
+    for Variant { name, fault, slip } in variants(wrong::PITCH, wrong_pitch::SLIPS) {
+        let slip = slip.unwrap_or(|_, answer| answer);
+        let wrong = |call| wrong_pitch::pitch(call, slip);
+        match wrong::making(fault, || pitch_difference(wrong, seed)) {
+            Some(found) if found.starts_with("pitch: ") => println!("{name}: found, {found}"),
+            found => complaints.push(format!("{name}: expected \"pitch: \", found {found:?}")),
         }
     }
     complaints
@@ -85,11 +112,11 @@ fn wrong_pitches(seed: u64) -> Vec<String> {
 
 /// Each entry of the table, one higher and one lower.
 fn wrong_entries(seed: u64) -> Vec<String> {
-    let places = (0..plain_pitch::ENTRIES).flat_map(|at| [(at, 1), (at, -1)]);
+    let places = (0..wrong_pitch::ENTRIES).flat_map(|at| [(at, 1), (at, -1)]);
     let missed: Vec<String> = places
         .filter(|&(at, more)| {
-            let wrong = PlainPitch::new(None).with_another_entry(at, more);
-            pitch_difference(wrong, seed).is_none()
+            let slip = |_, answer| wrong_pitch::with_another_entry(answer, at, more);
+            pitch_difference(|call| wrong_pitch::pitch(call, slip), seed).is_none()
         })
         .map(|(at, more)| format!("entry {at} with {more} added: not found"))
         .collect();
@@ -99,31 +126,35 @@ fn wrong_entries(seed: u64) -> Vec<String> {
     missed
 }
 
-/// What the sample finds of a pitch's plain form.
-fn pitch_difference(plain: PlainPitch, seed: u64) -> Option<String> {
+/// What the sample finds of a wrong pitch.
+fn pitch_difference(
+    wrong: impl Fn(pitches::Call) -> Given<Result<Pitch, Number>>,
+    seed: u64,
+) -> Option<String> {
     let mut random = Random::new(seed);
-    let wrong = |call| library::pitch_of(plain.answer(call));
     pitches::compare(pitches::sample(&mut random), reference::pitch, wrong).err()
 }
 
-fn one_side(mistake: Mistake, seed: u64) -> Option<Failure> {
+type WrongDevice = Variant<wrong_device::GainsSlip>;
+
+fn one_side(variant: &WrongDevice, seed: u64) -> Option<Failure> {
     let comparison = Comparison {
         start_a: reference::start,
-        start_b: |polyphony, id| Plain::start(Some(mistake), polyphony, id),
+        start_b: |polyphony, id| wrong_device::start_with_gains(variant.slip, polyphony, id),
         slip: None,
         pages: false,
     };
-    comparison.run(seed, WITHIN).1
+    wrong::making(variant.fault, || comparison.run(seed, WITHIN).1)
 }
 
-fn both_sides(mistake: Mistake, seed: u64) -> Option<Failure> {
+fn both_sides(variant: &WrongDevice, seed: u64) -> Option<Failure> {
     let comparison = Comparison {
-        start_a: |polyphony, id| Plain::start(Some(mistake), polyphony, id),
-        start_b: |polyphony, id| Plain::start(Some(mistake), polyphony, id),
+        start_a: wrong_device::start,
+        start_b: wrong_device::start,
         slip: None,
         pages: false,
     };
-    comparison.run(seed, WITHIN).1
+    wrong::making(variant.fault, || comparison.run(seed, WITHIN).1)
 }
 
 fn wrong_book(slip: Slip, seed: u64) -> Option<Failure> {

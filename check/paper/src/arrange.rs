@@ -140,8 +140,9 @@ impl Log {
         if self.ends_mip(event) || self.loses_note(event) {
             return Err(Number::LogSpoilt);
         }
+        let answer = take(&mut self.device, event);
         // Nothing but a note makes a generator busy, so that no count grows by anything else.
-        if let Answer::Note { .. } = take(&mut self.device, event) {
+        if matches!(answer, Answer::Note { .. }) {
             self.count();
         }
         Ok(())

@@ -25,13 +25,12 @@ pub struct Device {
 impl Device {
     /// Starts a device. A refused start leaves a "fresh record, P 1, ID 0".
     pub fn start(polyphony: u8, id: u8) -> (Device, Answer) {
+        let refused = |number| (Device::fresh(1, 0), Answer::Refused(number));
         if !(1..=64).contains(&polyphony) {
-            let answer = Answer::Refused(Number::PolyphonyOutOfRange);
-            return (Device::fresh(1, 0), answer);
+            return refused(Number::PolyphonyOutOfRange);
         }
         if id > 126 {
-            let answer = Answer::Refused(Number::IdOutOfRange);
-            return (Device::fresh(1, 0), answer);
+            return refused(Number::IdOutOfRange);
         }
         (Device::fresh(polyphony, id), Answer::Done)
     }
@@ -129,12 +128,10 @@ impl Device {
     /// Step 5: "count each channel's busy generators, with the new note. Among channels over their
     /// share take that of lowest priority. Its oldest busy generator is stolen."
     fn victim(&self, new_note: u8) -> Option<u8> {
-        let (loser, _) = self
-            .table
-            .lowest_priority_first()
-            .find(|&(channel, share)| {
-                self.generators.busy_count(channel) + u8::from(channel == new_note) > share
-            })?;
+        let over = |&(channel, share): &(u8, u8)| {
+            self.generators.busy_count(channel) + u8::from(channel == new_note) > share
+        };
+        let (loser, _) = self.table.lowest_priority_first().find(over)?;
         self.generators.oldest_busy(loser)
     }
 

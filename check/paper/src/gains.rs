@@ -66,7 +66,8 @@ pub fn gains(expression: u8, volume: u8, pan: u8) -> Result<Gains, Number> {
     if is_refused(expression, volume, pan) {
         return Err(Number::LevelOutOfRange);
     }
-    let squares = u64::from(expression).pow(2) * u64::from(volume).pow(2);
+    let (e, v) = (u64::from(expression), u64::from(volume));
+    let squares = e * e * v * v;
     let gain = |place: usize| Gain {
         numerator: squares * u64::from(WEIGHTS[place]),
     };
