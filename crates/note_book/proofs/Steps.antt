@@ -11,6 +11,7 @@ use lib.Dec.{eqb, leb, ltb}
 use lib.ListN.{getD, set, replicate, length-set, getD-replicate, List·getD-eq-default}
 use lib.Seq.{getD-set-same, getD-set-other}
 use Rattle.loops.specs.Cases.{if_then_else_}
+use Rattle.loops.proofs.Tests.{and-left}
 use Rattle.message.specs.declared.Message.{Message}
 use Rattle.message.specs.declared.Message.the-variants.{NoteOn, NoteOff, Control, Program, Bend, Other}
 use Rattle.table.specs.declared.Entry.{Entry}
@@ -45,7 +46,6 @@ use Rattle.reports.specs.Reports.{reported}
 use Rattle.exclusive.specs.Exclusive.{newTable}
 use Rattle.note_book.specs.Book.{Slot, empty, note, Book, withHolds, withTable, freshBook, shareOf, isRhythm, pedalDown, isDown, isOnPedal, isOf, isOfKey, freed, allFreed, put, keepNoteOff, holdAfter, notesAfter, keepControl, keepMessage, isOfMasked, keepTable, keepReport}
 use Rattle.note_book.specs.Claim.{slotOf}
-use Rattle.note_book.proofs.Either.{either-way}
 use Rattle.note_book.proofs.Playable.{playable-changed, playable-silenced, playable-restated, playable-silent}
 use Rattle.note_book.proofs.Sees.{slot-freed, means, pedals, sees-restated, sees-changed, sees-channel, sees-one, sees-silent}
 use Rattle.note_book.proofs.Pigeons.{IsListed}
