@@ -1,5 +1,5 @@
--- "Our reader must take every message so written and give back the same order and values": whatever record the message finds, F0 opens a SysEx, 36 data
--- bytes fill it, and the F7 finds a MIP message for us without fault.
+-- "Our reader must take every message so written and give back the same order and values": whatever record the message
+-- finds, F0 opens a SysEx, 36 data bytes fill it, and the F7 finds a MIP message for us without fault.
 -- Assumes nothing.
 use mathlib.Core.Path.{_≡_, refl, sym, ap, _∙_}
 use mathlib.Core.Bool.{Bool, true, false, _||_}

@@ -1,4 +1,5 @@
--- "with any value above 0 made one lower some line of the log would exceed it": no joint count after a line is above its value, and some line reaches it.
+-- "with any value above 0 made one lower some line of the log would exceed it": no joint count after a line is above
+-- its value, and some line reaches it.
 -- Assumes nothing.
 use mathlib.Core.Path.{_≡_, refl, ap}
 use mathlib.Core.Bool.{Bool, true, false}

@@ -33,7 +33,8 @@ valuesOf order log = values order (records fresh (linesOf log))
 abbrev pub recordAfter : List ℕ → ℕ → Device
 recordAfter log j = getD (records fresh (linesOf log)) j fresh
 
--- "Our reader must take every message so written and give back the same order and values": what it answers to the last byte, and its table then
+-- "Our reader must take every message so written and give back the same order and values": what it answers to the last
+-- byte, and its table then
 pub record GivenBack (order log : List ℕ) (o : Output) : Type 0 where
   pub answer : o .answer ≡ answer.Done
   pub same-order : map (λ (e : Entry). e .channel) (entriesOf (o .device .instrument .table)) ≡ order
@@ -45,8 +46,8 @@ ReaderTakes = (order log : List ℕ) → message order log .number ≡ 0 → (o 
 
 -- ---- the values
 
--- "the largest number of busy generators ever seen after a line ..., so that with any value above 0 made one lower some line of the log would exceed it":
--- the value at place k of the order
+-- "the largest number of busy generators ever seen after a line ..., so that with any value above 0 made one lower some
+-- line of the log would exceed it": the value at place k of the order
 pub record Tight (order log : List ℕ) (k : ℕ) : Type 0 where
   pub enough : (j : ℕ) → j < length (linesOf log) → joint order k (recordAfter log j) ≤ getD (valuesOf order log) k 0
   pub needed : 0 < getD (valuesOf order log) k 0
@@ -65,7 +66,8 @@ ZerosBeside = (order log : List ℕ) → (message order log .number ≡ 0 → �
 abbrev pub recordBefore : List ℕ → ℕ → Device
 recordBefore log j = getD (fresh ∷ records fresh (linesOf log)) j fresh
 
--- "answers with a number below 11 or with 13 are passed over ... or number 11 falls": in a log no other number falls, 12 least of all
+-- "answers with a number below 11 or with 13 are passed over ... or number 11 falls": in a log no other number falls,
+-- 12 least of all
 abbrev pub NoOtherNumber : Type 0
 NoOtherNumber =
     (log : List ℕ) (j : ℕ) (e : Event) (n : ℕ) → j < length (linesOf log) → eventOf (getD (linesOf log) j []) ≡ some e

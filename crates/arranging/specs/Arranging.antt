@@ -1,5 +1,5 @@
--- Document 02, ticket 1: a log of a song, "Run on a fresh device with P 64 and ID 0, ... shall yield the 38-byte message (device byte 7F) for a given order of all
--- sixteen channels".
+-- Document 02, ticket 1: a log of a song, "Run on a fresh device with P 64 and ID 0, ... shall yield the 38-byte
+-- message (device byte 7F) for a given order of all sixteen channels".
 -- Assumes nothing.
 use Prim.Native.Nat.{ℕ, _+_, _-_}
 use mathlib.Core.Bool.{Bool, true, false, _&&_, _||_}

@@ -1,5 +1,5 @@
--- Document 02, ticket 1, for a log in parts: what is kept between two parts, and what a byte of the log does to it. That any parts come to `message` of the
--- whole log is proved in proofs/Parts.antt.
+-- Document 02, ticket 1, for a log in parts: what is kept between two parts, and what a byte of the log does to it.
+-- That any parts come to `message` of the whole log is proved in proofs/Parts.antt.
 -- Assumes nothing.
 use Prim.Native.Nat.{ℕ, _+_}
 use mathlib.Core.Bool.{Bool, true, false}

@@ -1,5 +1,5 @@
-// The device (document 01): its start and its bytes, by value, for every value of the record. Reports are in crate `reports`, and both kinds of event
-// together in crate `events`. Assumes nothing.
+// The device (document 01): its start and its bytes, by value, for every value of the record. Reports are in crate
+// `reports`, and both kinds of event together in crate `events`. Assumes nothing.
 ghost use mathlib.Core.Path.{_≡_};
 ghost use Rattle.device.specs.Device.{freshDevice, started, heard, byteTaken};
 use instrument::Instrument;

@@ -1,4 +1,5 @@
--- The record after what a byte completed, where the record's parser is already the one after the byte, or still the one before it.
+-- The record after what a byte completed, where the record's parser is already the one after the byte, or still the one
+-- before it.
 use Prim.Native.Nat.{ℕ}
 use Rattle.splitter.specs.declared.Parser.{Parser}
 use Rattle.splitter.specs.declared.Completed.{Completed}

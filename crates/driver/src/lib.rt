@@ -1,6 +1,7 @@
-// The driver's side (document 01, "The device record"): it lends its one device record and finds it updated after the call. A MIDI byte, as the call by value
-// takes it, for every value of the record. Most bytes complete nothing and touch the parser alone, so the rest of the record is not copied for them. The other
-// event, a report, is in crate `driver_reports`. Assumes nothing.
+// The driver's side (document 01, "The device record"): it lends its one device record and finds it updated after the
+// call. A MIDI byte, as the call by value takes it, for every value of the record. Most bytes complete nothing and
+// touch the parser alone, so the rest of the record is not copied for them. The other event, a report, is in crate
+// `driver_reports`. Assumes nothing.
 ghost use mathlib.Core.Path.{_≡_};
 ghost use Rattle.events.specs.Events.{taken};
 ghost use Rattle.events.specs.declared.Event.the-variants.{Byte};

@@ -15,7 +15,8 @@ use Rattle.gains.specs.declared.GainsAnswer.{GainsAnswer}
 use Rattle.gains.specs.declared.GainsAnswer.the-variants.{GainsAre, OutOfRange}
 use Rattle.gains.specs.Within.{Within, AtMost1, Is0}
 
--- the 127 weights, each "nearest to 32768 × sin(pi × p / 252)": no proof speaks of a sine, so that a test program compares them (rust/tests/gains.rs)
+-- the 127 weights, each "nearest to 32768 × sin(pi × p / 252)": no proof speaks of a sine, so that a test program
+-- compares them (rust/tests/gains.rs)
 abbrev pub weights : List ℕ
 weights =
     0 ∷ 408 ∷ 817 ∷ 1225 ∷ 1633 ∷ 2041 ∷ 2449 ∷ 2856 ∷ 3263 ∷ 3669 ∷ 4074 ∷ 4480 ∷ 4884 ∷ 5287 ∷ 5690 ∷ 6092
@@ -31,8 +32,9 @@ weights =
 unfoldable pub weight : ℕ → ℕ
 weight p = getD weights p 0
 
--- what is proved of the table: it "rises strictly from W(0) = 0 to W(126) = 32768", and "W(p) squared plus W(126 − p) squared lies within 46,342 of
--- 1,073,741,824 for each p", so that the two sides together are nowhere louder or softer than 32768 alone by more than that
+-- what is proved of the table: it "rises strictly from W(0) = 0 to W(126) = 32768", and "W(p) squared plus W(126 − p)
+-- squared lies within 46,342 of 1,073,741,824 for each p", so that the two sides together are nowhere louder or softer
+-- than 32768 alone by more than that
 pub record Weighs (W : ℕ → ℕ) : Type 0 where
   pub first : W 0 ≡ 0
   pub last : W 126 ≡ 32768
@@ -44,8 +46,9 @@ pub record Weighs (W : ℕ → ℕ) : Type 0 where
 abbrev pub panned : ℕ → ℕ
 panned p = p - 1
 
--- the exact fraction is (e / 127) squared, times (v / 127) squared, times w / 32768; the gain x is "within one millionth" of it and, more than the paper asks, not above 1, so that no
--- sample grows, and 0 where the fraction is, so that silence is silence
+-- the exact fraction is (e / 127) squared, times (v / 127) squared, times w / 32768; the gain x is "within one
+-- millionth" of it and, more than the paper asks, not above 1, so that no sample grows, and 0 where the fraction is, so
+-- that silence is silence
 abbrev pub Near : ℕ → ℕ → ℕ → Float → Type 0
 Near e v w x = Within 1000000 x (e * e * (v * v) * w) (127 * 127 * (127 * 127) * 32768) × AtMost1 x × (e * e * (v * v) * w ≡ 0 → Is0 x)
 
@@ -74,7 +77,8 @@ abbrev pub gainsIn : GainsAnswer → Gains
 gainsIn (GainsAre g) = g
 gainsIn OutOfRange = silent
 
--- what a call answers: its number under its condition and under no other, and its gains. Which float it is, among those near enough, is left free
+-- what a call answers: its number under its condition and under no other, and its gains. Which float it is, among those
+-- near enough, is left free
 abbrev pub Answered : ℕ → ℕ → ℕ → GainsAnswer → Type 0
 Answered e v p a = (gainsNumber a ≡ numberFor e v p) × Gives (isOut e v p) e v p (gainsIn a)
 

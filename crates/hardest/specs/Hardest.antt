@@ -1,5 +1,6 @@
--- Document 02, ticket 14: "For a fresh device and n bytes .. from one sender, without reports, say how many thefts can occur at most". No list of n bytes makes more,
--- whatever the bytes are, and the song that crate `song` writes makes as many.
+-- Document 02, ticket 14: "For a fresh device and n bytes .. from one sender, without reports, say how many thefts can
+-- occur at most". No list of n bytes makes more, whatever the bytes are, and the song that crate `song` writes makes as
+-- many.
 use Prim.Native.Nat.{ℕ, _-_, _/_, _≤_}
 use mathlib.Core.Path.{_≡_}
 use mathlib.Core.Bool.{false}
@@ -10,7 +11,8 @@ use Rattle.device.specs.Device.{isWrongP, started}
 use Rattle.song.specs.declared.SongAnswer.the-variants.{Thefts}
 use Rattle.song.specs.Song.{thefts, song, isTooLong, songAnswer}
 
--- "the floor of (n − 1) / 2, less P, and 0 where that is negative or n is 0"; a difference of natural numbers is 0 where it would be negative
+-- "the floor of (n − 1) / 2, less P, and 0 where that is negative or n is 0"; a difference of natural numbers is 0
+-- where it would be negative
 unfoldable pub mostThefts : ℕ → ℕ → ℕ
 mostThefts p n = (n - 1) / 2 - p
 

@@ -1,4 +1,5 @@
--- Document 02, ticket 1: "the largest number of busy generators ever seen after a line on that channel and those before it".
+-- Document 02, ticket 1: "the largest number of busy generators ever seen after a line on that channel and those before
+-- it".
 -- Assumes nothing.
 use Prim.Native.Nat.{ℕ, _+_}
 use mathlib.Core.Bool.{Bool, false, _&&_, _||_}

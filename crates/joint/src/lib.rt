@@ -1,5 +1,5 @@
-// Joint counts (document 02, ticket 1): the busy generators on a channel of an order and on those before it, and the largest seen so far, for every order and every
-// record. Assumes nothing.
+// Joint counts (document 02, ticket 1): the busy generators on a channel of an order and on those before it, and the
+// largest seen so far, for every order and every record. Assumes nothing.
 ghost use mathlib.Core.Path.{_≡_};
 ghost use Prim.Native.Nat.{_+_, _≤_, _<_};
 ghost use lib.ListN.{take};

@@ -1,4 +1,5 @@
--- What the walks over the lent record share: the machine values of the record and its parts, the record put together from its parts, and a step past a branch.
+-- What the walks over the lent record share: the machine values of the record and its parts, the record put together
+-- from its parts, and a step past a branch.
 -- Assumes nothing.
 use mathlib.Core.Path.{_≡_, refl, subst}
 use mathlib.Core.Bool.{Bool, true, false}

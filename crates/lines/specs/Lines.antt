@@ -1,5 +1,5 @@
--- Document 01, "The listing program": the line of an answer, in ASCII. "Fields, parted by commas, no quoting: offset of the byte that completed it .., `done`,
--- `note` or the number, channel, key, generator, what it was."
+-- Document 01, "The listing program": the line of an answer, in ASCII. "Fields, parted by commas, no quoting: offset of
+-- the byte that completed it .., `done`, `note` or the number, channel, key, generator, what it was."
 use Prim.Native.Nat.{ℕ, zero, suc}
 use mathlib.Core.List.{List, [], _∷_, _++_}
 use Rattle.text.specs.Text.{decimal}
@@ -26,7 +26,8 @@ was Idle = 44 ∷ 105 ∷ 100 ∷ 108 ∷ 101 ∷ []
 was Release = 44 ∷ 114 ∷ 101 ∷ 108 ∷ 101 ∷ 97 ∷ 115 ∷ 101 ∷ []
 was Stolen = 44 ∷ 115 ∷ 116 ∷ 111 ∷ 108 ∷ 101 ∷ 110 ∷ []
 
--- the last fields, so many, without a meaning, a comma and a dash each: "A meaningless field is `-`", "every line ends with byte 0AH"
+-- the last fields, so many, without a meaning, a comma and a dash each: "A meaningless field is `-`", "every line ends
+-- with byte 0AH"
 abbrev pub dashes : ℕ → List ℕ
 dashes zero = 10 ∷ []
 dashes (suc n) = 44 ∷ 45 ∷ dashes n

@@ -1,4 +1,5 @@
--- Document 01's sentences on the listing program, of what is written for an input: a missing P or ID counts as 0; a failed start prints one line and ends.
+-- Document 01's sentences on the listing program, of what is written for an input: a missing P or ID counts as 0; a
+-- failed start prints one line and ends.
 -- Assumes nothing.
 use Prim.Native.Nat.{ℕ}
 use mathlib.Core.Path.{_≡_, refl}

@@ -1,5 +1,6 @@
-// What the listing program lists (document 01, "The listing program"): P, the own ID, then MIDI bytes, each of which may put a line into a page, and what the end of
-// the input adds. Reading and writing are in crate `filters`. Assumes nothing.
+// What the listing program lists (document 01, "The listing program"): P, the own ID, then MIDI bytes, each of which
+// may put a line into a page, and what the end of the input adds. Reading and writing are in crate `filters`. Assumes
+// nothing.
 ghost use Prim.Native.Nat.{_*_, _≤_};
 ghost use mathlib.Core.Path.{_≡_};
 ghost use lib.ListN.{length, take};
@@ -146,7 +147,8 @@ fn one(l: Lister, page: &mut [u8], used: &mut usize, b: u8) -> Lister
     }
 }
 
-// The bytes of a read, listed from the page's start on. Where the page has 128 bytes for each of them, what stands before `used` is what they list, whole.
+// The bytes of a read, listed from the page's start on. Where the page has 128 bytes for each of them, what stands
+// before `used` is what they list, whole.
 pub fn all(l: Lister, page: &mut [u8], bytes: &[u8]) -> Listed
     ensures { λ r. ⌜ Lists (now (page .entry)) 0 (listedBy l (now (bytes .entry))) (afterAll l (now (bytes .entry))) (r .lister) (r .used) (now (page .exit)) ⌝ }
     ensures { λ r. ⌜ (128 * length (now (bytes .entry)) ≤ length (now (page .entry)) → take (r .used) (now (page .exit)) ≡ listedBy l (now (bytes .entry))) ⌝ }

@@ -1,5 +1,5 @@
--- Document 02, ticket 1: "a log of a song, one line per event, `b,` and a byte 0 to 255, or `e,` and an ended generator 0 to 63, decimal without leading
--- zeros, each line ended by byte 0AH".
+-- Document 02, ticket 1: "a log of a song, one line per event, `b,` and a byte 0 to 255, or `e,` and an ended generator
+-- 0 to 63, decimal without leading zeros, each line ended by byte 0AH".
 -- Assumes nothing.
 use Prim.Native.Nat.{ℕ, _+_, _/_, _%_}
 use mathlib.Core.Bool.{Bool, true, false, _&&_}
@@ -41,7 +41,8 @@ same (x ∷ l) (y ∷ m) = eqb x y && same l m
 unfoldable pub eventOf : List ℕ → Option Event
 eventOf l = firstOf (λ e. same l (lineOf e)) loggable
 
--- a text cut behind each 0AH, with what stands in the line so far; a last part without 0AH is a line, and of another form
+-- a text cut behind each 0AH, with what stands in the line so far; a last part without 0AH is a line, and of another
+-- form
 abbrev pub lastLine : List ℕ → List (List ℕ)
 lastLine [] = []
 lastLine (x ∷ line) = (x ∷ line) ∷ []

@@ -1,5 +1,7 @@
--- The program `arrange` (document 02, ticket 1): on standard input a line with the order of the channels, sixteen decimal numbers with a comma between each two, and behind it the log; on
--- standard output the 38 bytes of the message, nothing beside a number; on standard error a line `number,line,message`. All text is ASCII, and every line ends with byte 0AH.
+-- The program `arrange` (document 02, ticket 1): on standard input a line with the order of the channels, sixteen
+-- decimal numbers with a comma between each two, and behind it the log; on standard output the 38 bytes of the message,
+-- nothing beside a number; on standard error a line `number,line,message`. All text is ASCII, and every line ends with
+-- byte 0AH.
 -- Assumes nothing.
 use Prim.Native.Nat.{ℕ, _+_}
 use mathlib.Core.Bool.{Bool, true, false, not, _&&_}
@@ -30,7 +32,8 @@ newOrder = orderLine newLine 0 (replicate 16 0)
 abbrev pub lost : OrderLine
 lost = orderLine newLine 17 (replicate 16 0)
 
--- a number with a digit, behind fewer than sixteen, is put behind them: at a comma, and at the line's end. One above 255, which is no channel, is kept as 255
+-- a number with a digit, behind fewer than sixteen, is put behind them: at a comma, and at the line's end. One above
+-- 255, which is no channel, is kept as 255
 abbrev pub isPut : OrderLine → Bool
 isPut c = c .number .digit && eqb (c .number .commas) 0 && ltb (c .count) 16
 

@@ -1,4 +1,5 @@
--- A call of `answer_numbers`, as the walks of the functions that answer need it: its contract, what goes in, and what it says.
+-- A call of `answer_numbers`, as the walks of the functions that answer need it: its contract, what goes in, and what
+-- it says.
 -- Assumes nothing.
 use mathlib.Core.Path.{_≡_}
 use mathlib.Core.List.{[], _∷_}

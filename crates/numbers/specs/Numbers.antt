@@ -1,5 +1,6 @@
--- The answers of documents 01 and 02 in plain numbers, as C has them: what it is (0 none, 1 done, 2 a note, 3 a number), the paper's number, 0 where it has none, and the values that
--- the answer carries. A field without meaning is 0.
+-- The answers of documents 01 and 02 in plain numbers, as C has them: what it is (0 none, 1 done, 2 a note, 3 a
+-- number), the paper's number, 0 where it has none, and the values that the answer carries. A field without meaning is
+-- 0.
 use Prim.Native.Nat.{ℕ}
 use mathlib.Core.Path.{_≡_}
 use Rattle.loops.specs.Cases.{orZero}
@@ -36,7 +37,8 @@ wasNumber Idle = 0
 wasNumber Release = 1
 wasNumber Stolen = 2
 
--- "The answer is note (channel, key, generator, what the generator was ..), done .., none, or a number"; "numbers 10 and 11 give channel and key"
+-- "The answer is note (channel, key, generator, what the generator was ..), done .., none, or a number"; "numbers 10
+-- and 11 give channel and key"
 abbrev pub numbersOf : Answer → AnswerNumbers
 numbersOf Nothing = record { what = 0; number = 0; channel = 0; key = 0; generator = 0; was = 0 }
 numbersOf Done = record { what = 1; number = 0; channel = 0; key = 0; generator = 0; was = 0 }
@@ -62,7 +64,8 @@ shareNumbers NotAChannel = record { number = orZero (shareNumber NotAChannel); s
 abbrev pub pitchNumbers : PitchAnswer → PitchNumbers
 pitchNumbers a = record { entry = pitchIn a .entry; octave = pitchIn a .octave; number = orZero (pitchNumber a) }
 
--- the gains of a call or, beside number 24, 0 and 0: what `gains.Answered` says of the answer, said of the plain numbers
+-- the gains of a call or, beside number 24, 0 and 0: what `gains.Answered` says of the answer, said of the plain
+-- numbers
 abbrev pub GainsTold : ℕ → ℕ → ℕ → GainNumbers → Type 0
 GainsTold e v p r = (r .number ≡ orZero (numberFor e v p)) × Gives (isOut e v p) e v p (record { left = r .left; right = r .right })
 

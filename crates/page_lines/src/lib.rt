@@ -1,5 +1,6 @@
-// The text of the program `page` (document 02, ticket 2): the bytes of its input, which are those of the listing program and list nothing here, and at their end the service
-// page of the device, or the number of a start that was refused. The page is crate `service`'s, and reading and writing are the program's. Assumes nothing.
+// The text of the program `page` (document 02, ticket 2): the bytes of its input, which are those of the listing
+// program and list nothing here, and at their end the service page of the device, or the number of a start that was
+// refused. The page is crate `service`'s, and reading and writing are the program's. Assumes nothing.
 ghost use Prim.Native.Nat.{_≤_};
 ghost use mathlib.Core.Path.{_≡_};
 ghost use lib.ListN.{length, take};

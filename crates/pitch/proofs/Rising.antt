@@ -1,5 +1,7 @@
--- A higher position gives a higher pitch. Counted from two octaves below 0, four times the pitch is a natural number, 2 to the power of the octave times the entry. It rises within an octave since the
--- entries do, and from one to the next since each entry is from 65536 on and below twice that. The fractions are then compared crosswise. Last, the octaves of the positions that calls give.
+-- A higher position gives a higher pitch. Counted from two octaves below 0, four times the pitch is a natural number, 2
+-- to the power of the octave times the entry. It rises within an octave since the entries do, and from one to the next
+-- since each entry is from 65536 on and below twice that. The fractions are then compared crosswise. Last, the octaves
+-- of the positions that calls give.
 -- Assumes nothing.
 use mathlib.Core.Path.{_≡_, refl, sym, ap, subst}
 use mathlib.Core.Bool.{Bool, true, false, cond, _||_}
@@ -125,7 +127,8 @@ within k s b e = go (ltb 127 k) (ltb 24 s) (ltb 16383 b) refl refl refl e
     go false true z p q r t = absurd (clash t)
     go false false true p q r t = absurd (clash t)
 
--- "A higher position never gives a lower pitch": of two calls that are not refused, the one of higher position gives the higher pitch
+-- "A higher position never gives a lower pitch": of two calls that are not refused, the one of higher position gives
+-- the higher pitch
 pub higher-position-higher-pitch : (k s b k′ s′ b′ : ℕ) → isOut k s b ≡ false → isOut k′ s′ b′ ≡ false → position k s b <ℤ position k′ s′ b′
     → Lower (pitchIn (pitchOf k s b)) (pitchIn (pitchOf k′ s′ b′))
 unfolding pitchOf

@@ -1,5 +1,5 @@
--- The table of one octave follows its rule, and rises: one test of each of the 192 numbers, which the checker computes in one sweep. Whatever is asked of an entry is then read off the test at
--- its place; no power is computed again.
+-- The table of one octave follows its rule, and rises: one test of each of the 192 numbers, which the checker computes
+-- in one sweep. Whatever is asked of an entry is then read off the test at its place; no power is computed again.
 -- Assumes nothing.
 use mathlib.Core.Path.{_≡_, refl, sym, ap, _∙_, subst}
 use mathlib.Core.Bool.{Bool, true, false}
@@ -121,7 +121,8 @@ entry-root i n r =
 pub entry-at : (i : ℕ) → i < 192 → entry i ≡ getD roots i 0
 entry-at i h = entry-root i (getD roots i 0) (root-at i h)
 
--- the rule of the whole table, in the paper's words: an entry's 192nd power is at most 2 to the power 3072 + i, and no larger number's is
+-- the rule of the whole table, in the paper's words: an entry's 192nd power is at most 2 to the power 3072 + i, and no
+-- larger number's is
 pub largest-entry : (i : ℕ) → i < 192 → (entry i ^ 192 ≤ 2 ^ (3072 + i)) × ((n : ℕ) → n ^ 192 ≤ 2 ^ (3072 + i) → n ≤ entry i)
 largest-entry i h = rw (entry-at i h) (root-at i h .low, λ n l. go n (ltb (getD roots i 0) n) refl l)
   where

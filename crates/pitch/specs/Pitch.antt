@@ -20,7 +20,8 @@ abbrev pub rest : ℤ → ℕ → ℕ
 rest (pos n) d = n % d
 rest (negsuc n) d = d - 1 - n % d
 
--- the position, "in sixteenths of a semitone": 16 a key, and 16 a semitone of the sensitivity for every 8192 steps that the bend is from its centre, down to the floor
+-- the position, "in sixteenths of a semitone": 16 a key, and 16 a semitone of the sensitivity for every 8192 steps that
+-- the bend is from its centre, down to the floor
 unfoldable pub position : ℕ → ℕ → ℕ → ℤ
 position k s b = pos (16 * k) +ℤ floorDiv (pos (16 * s) *ℤ subℕ b 8192) 8192
 
@@ -29,7 +30,8 @@ unfoldable pub largest : (ℕ → Bool) → ℕ → ℕ
 largest p zero = 0
 largest p (suc m) = if p (suc m) then suc m else largest p m
 
--- entry i of the octave, 0 to 191: the largest number whose 192nd power is at most 2 to the power 3072 + i. No power is less than its number, so that the search need not go further
+-- entry i of the octave, 0 to 191: the largest number whose 192nd power is at most 2 to the power 3072 + i. No power is
+-- less than its number, so that the search need not go further
 unfoldable pub entry : ℕ → ℕ
 entry i = largest (λ n. leb (n ^ 192) (2 ^ (3072 + i))) (2 ^ (3072 + i))
 
@@ -54,6 +56,7 @@ abbrev pub pitchIn : PitchAnswer → Pitch
 pitchIn (Sounds p) = p
 pitchIn OutOfRange = record { octave = pos 0; entry = 65536 }
 
--- a pitch that is lower than another: a pitch is its entry times 2 to the power of its octave, which is the fraction up / down
+-- a pitch that is lower than another: a pitch is its entry times 2 to the power of its octave, which is the fraction up
+-- / down
 abbrev pub Lower : Pitch → Pitch → Type 0
 Lower p q = p .entry * up (p .octave) * down (q .octave) < q .entry * up (q .octave) * down (p .octave)

@@ -1,5 +1,5 @@
--- The filter `pitches`: a call a line, `k,s,b` in decimal, and for each a line `number,octave,entry`, what `pitchOf k s b` answers. All text is ASCII, and every line
--- ends with byte 0AH.
+-- The filter `pitches`: a call a line, `k,s,b` in decimal, and for each a line `number,octave,entry`, what `pitchOf k s
+-- b` answers. All text is ASCII, and every line ends with byte 0AH.
 use Prim.Native.Nat.{ℕ, suc}
 use mathlib.Core.Path.{_≡_}
 use mathlib.Core.Bool.{Bool, _&&_}

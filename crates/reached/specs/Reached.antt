@@ -1,6 +1,7 @@
--- Document 01, "The device record": the eleven numbers of a channel stay in MIDI's range, whatever is sent. A driver that asks for the levels by a channel's
--- numbers in the record (document 02, ticket 13) is therefore never refused; for the pitch (ticket 7) sensitivity and bend are in their ranges.
--- A byte is any number here: one above 255, which no u8 holds, is passed over like F8 to FF, so that nothing is asked of the list.
+-- Document 01, "The device record": the eleven numbers of a channel stay in MIDI's range, whatever is sent. A driver
+-- that asks for the levels by a channel's numbers in the record (document 02, ticket 13) is therefore never refused;
+-- for the pitch (ticket 7) sensitivity and bend are in their ranges. A byte is any number here: one above 255, which no
+-- u8 holds, is passed over like F8 to FF, so that nothing is asked of the list.
 -- Assumes nothing.
 use Prim.Native.Nat.{ℕ, _≤_}
 use mathlib.Core.Path.{_≡_}

@@ -1,4 +1,5 @@
--- Document 02, ticket 2, the service page: "17 lines of 18 characters, each ended by byte 0AH, 323 bytes in all", in ASCII.
+-- Document 02, ticket 2, the service page: "17 lines of 18 characters, each ended by byte 0AH, 323 bytes in all", in
+-- ASCII.
 -- Assumes nothing.
 use Prim.Native.Nat.{ℕ, zero, suc, _+_, _/_, _%_}
 use mathlib.Core.List.{List, [], _∷_, _++_}
@@ -20,7 +21,8 @@ use Rattle.service.specs.declared.PageAnswer.the-variants.{Written, TooS
 
 -- ---- the fields
 
--- "Numbers are right-aligned with blanks": one below 100 in two places, one below 1000 in three. A blank is byte 32, digit 0 is byte 48
+-- "Numbers are right-aligned with blanks": one below 100 in two places, one below 1000 in three. A blank is byte 32,
+-- digit 0 is byte 48
 unfoldable pub inTwo : ℕ → List ℕ
 inTwo n = (if ltb n 10 then 32 else 48 + n / 10) ∷ (48 + n % 10) ∷ []
 
@@ -80,7 +82,8 @@ pageText d = pageOf (entriesOf (d .instrument .table)) (d .instrument .polyphony
 
 -- ---- the call
 
--- the buffer after it: "Bytes after the 323rd keep their content"; "18, a buffer under 323 bytes, which is then left untouched"
+-- the buffer after it: "Bytes after the 323rd keep their content"; "18, a buffer under 323 bytes, which is then left
+-- untouched"
 unfoldable pub pageAfter : Device → List ℕ → List ℕ
 pageAfter d old = if ltb (length old) 323 then old else pageText d ++ drop 323 old
 

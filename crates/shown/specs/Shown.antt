@@ -1,5 +1,5 @@
--- Document 02, ticket 2: what the service page shows, said without its code. The page is that of the note book of demand 3; it agrees with the queries; and its bytes are
--- 17 lines of text.
+-- Document 02, ticket 2: what the service page shows, said without its code. The page is that of the note book of
+-- demand 3; it agrees with the queries; and its bytes are 17 lines of text.
 -- Assumes nothing.
 use Prim.Native.Nat.{ℕ, _+_, _-_, _*_, _≤_, _<_}
 use mathlib.Core.Path.{_≡_}
@@ -72,7 +72,8 @@ lineAt n text = take 19 (drop (19 * n) text)
 abbrev pub field : ℕ → ℕ → ℕ → Device → List ℕ
 field a w c d = take w (drop a (lineAt c (pageText d)))
 
--- the line of a channel, field by field: `CH`, `SHR`, `M` and `NT` by the queries, `PR` and `VAL`, for which there are none, by the table
+-- the line of a channel, field by field: `CH`, `SHR`, `M` and `NT` by the queries, `PR` and `VAL`, for which there are
+-- none, by the table
 pub record Agrees (d : Device) (c : ℕ) : Type 0 where
   pub channel : field 0 2 c d ≡ inTwo c
   pub place : field 3 2 c d ≡ placeField (standingFrom 1 c (entriesOf (d .instrument .table)))

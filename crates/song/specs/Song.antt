@@ -1,4 +1,5 @@
--- Document 02, ticket 14: a song of n bytes in a lent buffer, and "the thefts counted while playing it". That no song of n bytes does worse is stated in crate `hardest`.
+-- Document 02, ticket 14: a song of n bytes in a lent buffer, and "the thefts counted while playing it". That no song
+-- of n bytes does worse is stated in crate `hardest`.
 use Prim.Native.Nat.{ℕ, _+_, _-_, _/_, _%_}
 use mathlib.Core.Bool.{Bool, false, _||_}
 use mathlib.Core.List.{List, [], _∷_, _++_}
@@ -45,7 +46,8 @@ song n = upTo songByte n
 abbrev pub isTooLong : ℕ → ℕ → Bool
 isTooLong n room = ltb 65536 n || ltb room n
 
--- "A wrong P gets number 1 here too"; 25 "after number 1"; else the thefts on a fresh device of polyphony P, with own ID 0
+-- "A wrong P gets number 1 here too"; 25 "after number 1"; else the thefts on a fresh device of polyphony P, with own
+-- ID 0
 unfoldable pub songAnswer : ℕ → ℕ → List ℕ → SongAnswer
 songAnswer p n buffer =
     if isWrongP p then WrongPolyphony else

@@ -1,5 +1,6 @@
-// The hardest song of n bytes (document 02, ticket 14): written into a lent buffer and played on a fresh device while it is written, with its thefts counted. That
-// no song of n bytes makes more is stated and proved in crate `hardest`. Assumes nothing.
+// The hardest song of n bytes (document 02, ticket 14): written into a lent buffer and played on a fresh device while
+// it is written, with its thefts counted. That no song of n bytes makes more is stated and proved in crate `hardest`.
+// Assumes nothing.
 ghost use mathlib.Core.Path.{_≡_};
 ghost use Prim.Native.Nat.{_≤_};
 ghost use Rattle.loops.specs.Cases.{bit};
@@ -72,7 +73,8 @@ fn is_too_long(n: usize, room: usize) -> bool
     (MOST_BYTES < n) | (room < n)
 }
 
-// Writes the song of n bytes into the buffer's first n bytes, plays each of them on a fresh device of this polyphony, and answers the thefts that the device told.
+// Writes the song of n bytes into the buffer's first n bytes, plays each of them on a fresh device of this polyphony,
+// and answers the thefts that the device told.
 pub fn write_song(polyphony: u8, n: usize, song: &mut [u8]) -> SongAnswer
     ensures { λ r. ⌜ (r ≡ songAnswer polyphony n (now (song .entry))) × (now (song .exit) ≡ songWritten polyphony n (now (song .entry))) ⌝ }
 {

@@ -1,5 +1,5 @@
--- Document 01, "F8 to FF: no effect anywhere, inside SysEx too": a real-time byte completes nothing and leaves the parser as it is, running status,
--- a pending data byte and an open SysEx included. Assumes nothing.
+-- Document 01, "F8 to FF: no effect anywhere, inside SysEx too": a real-time byte completes nothing and leaves the
+-- parser as it is, running status, a pending data byte and an open SysEx included. Assumes nothing.
 use mathlib.Core.Path.{_≡_}
 use mathlib.Core.Bool.{true, false}
 use Prim.Native.Nat.{ℕ, _≤_}

@@ -1,6 +1,6 @@
--- Document 01, "Bytes": how a stream of bytes is split into messages. Pure MIDI 1.0: nothing here knows a polyphony, an own ID or a table.
--- A parser holds the status byte in force (0: none), how many data bytes have come since, and these bytes; of a SysEx the first 37, counted to 37, since no message
--- that counts is longer than 36.
+-- Document 01, "Bytes": how a stream of bytes is split into messages. Pure MIDI 1.0: nothing here knows a polyphony, an
+-- own ID or a table. A parser holds the status byte in force (0: none), how many data bytes have come since, and these
+-- bytes; of a SysEx the first 37, counted to 37, since no message that counts is longer than 36.
 use Prim.Native.Nat.{ℕ, _+_}
 use mathlib.Core.Bool.{Bool, _&&_, _||_, not}
 use mathlib.Core.List.{List}
@@ -57,7 +57,8 @@ dataByte p b =
     if atLast p then completed p b else
     record { parser = stored p b; completed = Nothing }
 
--- a status from 80 to F7 replaces what was in force: 80 to EF are the running status, F0 opens a SysEx, F1 to F3 swallow, F4 to F7 leave none
+-- a status from 80 to F7 replaces what was in force: 80 to EF are the running status, F0 opens a SysEx, F1 to F3
+-- swallow, F4 to F7 leave none
 unfoldable pub opened : ℕ → Parser
 opened b = begun (if ltb b 0xF4 then b else 0)
 

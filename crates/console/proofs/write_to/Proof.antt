@@ -1,4 +1,5 @@
--- `console::write_to` ends: a call takes a byte at least, or a try is gone. A byte weighs more than all the tries, which it gives back.
+-- `console::write_to` ends: a call takes a byte at least, or a try is gone. A byte weighs more than all the tries,
+-- which it gives back.
 -- Assumes nothing.
 use Prim.Native.Nat.{_+_, _*_, _-_, _≤_}
 use native.Mathlib.Omega.{arith}

@@ -1,6 +1,7 @@
--- `driver::hear` meets its contract: a walk of its MIR, by hand. The borrow is opened, the parser is read into a local, the parser after the byte is stored in the record's place, and
--- the borrow is closed at the record so made. It is then passed on for good, to `note` for a note-on and to `act` for anything else, so that the record's last value is the one
--- that they say. All that the proof knows of the functions that are called is that each meets its contract.
+-- `driver::hear` meets its contract: a walk of its MIR, by hand. The borrow is opened, the parser is read into a local,
+-- the parser after the byte is stored in the record's place, and the borrow is closed at the record so made. It is then
+-- passed on for good, to `note` for a note-on and to `act` for anything else, so that the record's last value is the
+-- one that they say. All that the proof knows of the functions that are called is that each meets its contract.
 -- Assumes nothing.
 use mathlib.Core.Path.{_≡_, refl}
 use mathlib.Core.Bool.{true}
@@ -231,7 +232,8 @@ module _ {M : Type 1} (𝓤 : URA M) (H : Heap 𝓤) (A : Atoms 𝓤) (W : Given
         move ! (20 ∷ 21 ∷ 22 ∷ []) $ opens ! tt D.the-row {h = h} b o (λ vs. spelt ! D.the-row (Is D.the-row) (shows 𝓤 H A D.the-row) (LL.vals D.the-type D′.the-laws) (LL.tells D.the-type D′.the-laws) fullShare h vs b o $
         move ! (1 ∷ []) $ peeks ! D.the-row (Is D.the-row) (shows 𝓤 H A D.the-row) h (dev-val h ∷ []) (λ was. drop ! $
         use1 W (‵ (fat fullShare D′.mir b o (dev-val h))) (W .laws .raw-at fullShare D′.mir b o (dev-val h)) $
-        -- [the device's cell; the open borrow; obs; auth; _9; …; and so on to _0; …; true]: _i stands at 4 + 2 (9 − i), and at 3 + 2 (9 − i) once the borrow is closed
+        -- [the device's cell; the open borrow; obs; auth; _9; …; and so on to _0; …; true]: _i stands at 4 + 2 (9 − i),
+        -- and at 3 + 2 (9 − i) once the borrow is closed
         assigns ! (of-opd ! (load ! (from ! (hop ! (look ! 20 refl) (fld ! refl (stop !)))) (look-in ! 0 (sub ! 0 refl (whole !))))) (from ! (stop !)) (init ! 14 refl (LL.lawful P.the-type P′.the-laws 𝓤 H A W .typed (h .parser) _ (LL.owed D.the-type D′.the-laws h _ was .0) .0)) $
         owned ! P.the-row (Is P.the-row) (LL.makes P.the-type P′.the-plain 𝓤 H A) (h .parser) (par-val (h .parser) ∷ []) (LL.owed D.the-type D′.the-laws h _ was .0) $
         use1 W (raw (After 𝓤 H A at-mem run .pre to-after)) goes-after $

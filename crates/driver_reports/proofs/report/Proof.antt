@@ -1,5 +1,6 @@
--- `driver_reports::report` meets its contract: a walk of its MIR, by hand. The borrow is opened, the instrument is read into a local, `ended` is called on that copy, its
--- instrument is stored in the record's place, and the borrow is closed at the record so made. All that the proof knows of `ended` is that it meets its contract.
+-- `driver_reports::report` meets its contract: a walk of its MIR, by hand. The borrow is opened, the instrument is read
+-- into a local, `ended` is called on that copy, its instrument is stored in the record's place, and the borrow is
+-- closed at the record so made. All that the proof knows of `ended` is that it meets its contract.
 -- Assumes nothing.
 use mathlib.Core.Path.{_≡_, refl, ap}
 use Prim.Native.Nat.{ℕ, _<_, _^_}

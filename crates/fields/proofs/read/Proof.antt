@@ -1,4 +1,5 @@
--- `fields::read`: the two tests are those of the definition, and what they say of the byte and of the number that is read keeps the code within its types.
+-- `fields::read`: the two tests are those of the definition, and what they say of the byte and of the number that is
+-- read keeps the code within its types.
 -- Assumes nothing.
 use Prim.Native.Nat.{_<_}
 use mathlib.Core.Bool.{_&&_}

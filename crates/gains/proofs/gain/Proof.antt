@@ -1,4 +1,5 @@
--- `gains::gain` meets its contract: three quotients and two products, each with its error (`Rounding`), which come to less than a millionth.
+-- `gains::gain` meets its contract: three quotients and two products, each with its error (`Rounding`), which come to
+-- less than a millionth.
 -- Assumes nothing.
 use mathlib.Core.Path.{refl}
 use Prim.Native.Nat.{ℕ, _*_, _≤_, _<_}

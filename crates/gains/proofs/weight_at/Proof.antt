@@ -1,4 +1,5 @@
--- `gains::weight_at` meets its contract: a place is 16 times its row and what is left, and no weight is above the last (`Weights`).
+-- `gains::weight_at` meets its contract: a place is 16 times its row and what is left, and no weight is above the last
+-- (`Weights`).
 -- Assumes nothing.
 use mathlib.Core.Path.{_≡_, sym, subst, ap, _∙_}
 use Prim.Native.Nat.{ℕ, _+_, _*_, _/_, _%_, _≤_, _<_}

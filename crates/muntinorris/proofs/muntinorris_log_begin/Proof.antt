@@ -1,5 +1,6 @@
--- `muntinorris::muntinorris_log_begin` meets its contract: a walk of its MIR, by hand, up to where `Kept` takes over. `arranging::begin` is called on the bytes, of which a copy of the borrow is
--- kept, and what it gives is stored; what the record was before is never read. All that the proof knows of `begin` is that it meets its contract.
+-- `muntinorris::muntinorris_log_begin` meets its contract: a walk of its MIR, by hand, up to where `Kept` takes over.
+-- `arranging::begin` is called on the bytes, of which a copy of the borrow is kept, and what it gives is stored; what
+-- the record was before is never read. All that the proof knows of `begin` is that it meets its contract.
 -- Assumes nothing.
 use mathlib.Core.Path.{_≡_, refl}
 use Prim.Native.Nat.{ℕ}

@@ -1,6 +1,7 @@
--- `muntinorris::muntinorris_log_part` meets its contract: a walk of its MIR, by hand, up to where `Kept` takes over. The borrow of the record is opened, the record read whole into a local and
--- the borrow closed again; `arranging::take` is called on the copy and the bytes, of which a copy of the borrow is kept, and what it gives is stored. All that the proof knows of `take` is that it
--- meets its contract.
+-- `muntinorris::muntinorris_log_part` meets its contract: a walk of its MIR, by hand, up to where `Kept` takes over.
+-- The borrow of the record is opened, the record read whole into a local and the borrow closed again; `arranging::take`
+-- is called on the copy and the bytes, of which a copy of the borrow is kept, and what it gives is stored. All that the
+-- proof knows of `take` is that it meets its contract.
 -- Assumes nothing.
 use mathlib.Core.Path.{_≡_, refl}
 use Prim.Native.Nat.{ℕ}
@@ -74,7 +75,8 @@ module _ {M : Type 1} (𝓤 : URA M) (H : Heap 𝓤) (A : Atoms 𝓤) (at-mem : 
       -- [_4; …; _3; …; _2; …; _1; …; _0; …; the bytes; the bytes; obs; the borrow; the token; the other token]
       move ! (12 ∷ 13 ∷ 14 ∷ []) $ opens ! tt R.the-row {h = h} b o (λ us. spelt ! R.the-row (Is R.the-row) (shows 𝓤 H A R.the-row) (LL.vals R.the-type R′.the-laws) (LL.tells R.the-type R′.the-laws) fullShare h us b o $
       move ! (1 ∷ []) $ peeks ! R.the-row (Is R.the-row) (shows 𝓤 H A R.the-row) h (run-val h ∷ []) (λ was. move ! (1 ∷ 0 ∷ []) $
-      -- [the record's cell; what a record owns; the open borrow; obs; auth; _4; …; _3; …; _2; …; _1; …; _0; …; the bytes; the bytes; the other token]
+      -- [the record's cell; what a record owns; the open borrow; obs; auth; _4; …; _3; …; _2; …; _1; …; _0; …; the
+      -- bytes; the bytes; the other token]
       assigns ! (of-opd ! (load ! (from ! (hop ! (look ! 11 refl) (stop !))) (look-raw ! 0 refl))) (from ! (stop !)) (init ! 5 refl (LL.lawful R.the-type R′.the-laws 𝓤 H A W .typed h _ was .0)) $
       closes ! tt R.the-row h (run-val h ∷ []) b o $
       -- [obs; the borrow; the token; _4; …; _3; …; _2; …; _1; …; _0; …; the bytes; the bytes; the other token]

@@ -1,6 +1,7 @@
--- `muntinorris::muntinorris_start` meets its contract: a walk of its MIR, by hand. `device::start` is called, the borrow is opened, the new record is stored whole behind it and
--- the borrow closed at that; the answer is turned into numbers. What the record was before is never read. All that the proof knows of the two functions is that each
--- meets its contract.
+-- `muntinorris::muntinorris_start` meets its contract: a walk of its MIR, by hand. `device::start` is called, the
+-- borrow is opened, the new record is stored whole behind it and the borrow closed at that; the answer is turned into
+-- numbers. What the record was before is never read. All that the proof knows of the two functions is that each meets
+-- its contract.
 -- Assumes nothing.
 use mathlib.Core.Path.{_≡_, refl, ap, _∙_}
 use Prim.Native.Nat.{ℕ, _<_, _^_}

@@ -1,4 +1,5 @@
--- `numbers::page_number` meets its contract: the buffer is as `service::write_page` leaves it, and each of its answers has its number.
+-- `numbers::page_number` meets its contract: the buffer is as `service::write_page` leaves it, and each of its answers
+-- has its number.
 -- Assumes nothing.
 use mathlib.Core.Path.{sym, _∙_}
 use borrow.Author.Needs.{needs}

@@ -1,4 +1,5 @@
--- `pitch::pitch_of` meets its contract: the three tests one after the other, then octave and remainder of the raised position (`Floor`).
+-- `pitch::pitch_of` meets its contract: the three tests one after the other, then octave and remainder of the raised
+-- position (`Floor`).
 -- Assumes nothing.
 use mathlib.Core.Path.{_≡_, refl}
 use mathlib.Core.Bool.{Bool, true, false, cond}

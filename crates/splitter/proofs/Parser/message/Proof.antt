@@ -1,4 +1,5 @@
--- `splitter::Parser::message` meets its contract: the branch's test is the definition's, and so is the message, of one data byte or of two.
+-- `splitter::Parser::message` meets its contract: the branch's test is the definition's, and so is the message, of one
+-- data byte or of two.
 -- Assumes nothing.
 use borrow.Author.Tests.{le-leb, lt-leb}
 use Rattle.splitter.specs.Split.{completed}

@@ -1,4 +1,5 @@
--- `splitter::Parser::store` meets its contract: below 37 the byte goes to the place of the count, from 37 on nothing changes.
+-- `splitter::Parser::store` meets its contract: below 37 the byte goes to the place of the count, from 37 on nothing
+-- changes.
 -- Assumes nothing.
 use borrow.Author.Tests.{lt-ltb, le-ltb}
 use Rattle.splitter.specs.Split.{stored}
