@@ -11,18 +11,6 @@ returns : tie.Need-returns
 unfolding completed
 returns c = simp (le-leb _ _ (c .if1 .taken))
 
-one-data-byte-requires : tie.Need-one-data-byte-requires
-one-data-byte-requires c κs = search needs
-
-array-read-if-else : tie.Need-array-read-if-else
-array-read-if-else c = search needs
-
-if-else-requires : tie.Need-if-else-requires
-if-else-requires c κs = search needs
-
-if-else-requires-2 : tie.Need-if-else-requires-2
-if-else-requires-2 c κs = search needs
-
 returns-2 : tie.Need-returns-2
 unfolding completed
 returns-2 c =
@@ -34,8 +22,8 @@ message-spec =
     tie.close
     (tie.spec
     returns
-    one-data-byte-requires
-    array-read-if-else
-    if-else-requires
-    if-else-requires-2
+    (λ c κs. search needs)
+    (λ c. search needs)
+    (λ c κs. search needs)
+    (λ c κs. search needs)
     returns-2)
