@@ -16,11 +16,8 @@ told p n h e =
     let w : n ≡ weight p = e ∙ ap weight back in
     (w, subst (λ (x : ℕ). x ≤ 32768) (sym w) (at-most p h))
 
-weight-in-requires : tie.Need-weight-in-requires
-weight-in-requires c κs = search needs
-
 returns : tie.Need-returns
 returns c = told (c .before .args .p) (c .weight-in .result) (search needs) (c .weight-in .ensures)
 
 pub weight-at-spec : {M : Type 1} → statement M
-weight-at-spec = tie.close (tie.spec weight-in-requires returns)
+weight-at-spec = tie.close (tie.spec (λ c κs. search needs) returns)
