@@ -1,4 +1,5 @@
--- The claims bite. First their words: a claim or a clause that is narrowed or emptied behind its name would not give these facts. Then one log of which all of them speak.
+-- The claims bite. First their words: a claim or a clause that is narrowed or emptied behind its name would not give
+-- these facts. Then one log of which all of them speak.
 -- Assumes nothing.
 use mathlib.Core.Path.{_≡_, refl, ap}
 use mathlib.Core.List.{List, [], _∷_, map}
@@ -43,8 +44,8 @@ module _ (order l : List ℕ) (k : ℕ) (h : Tight order l k) where
       → (j : ℕ) × ((j < length (linesOf l)) × (getD (valuesOf order l) k 0 - 1 < joint order k (recordAfter l j)))
   exceeded-if-lower = h .needed
 
--- the words that they are said with: bytes go to the device they are given, one after another; parts go one after another; line j finds what the line before it left; a log's values and records
--- are those of its lines
+-- the words that they are said with: bytes go to the device they are given, one after another; parts go one after
+-- another; line j finds what the line before it left; a log's values and records are those of its lines
 pub fed-on : (o : Output) (a b : ℕ) → fed o (a ∷ b ∷ []) ≡ byteTaken (byteTaken (o .device) a .device) b
 unfolding fed
 fed-on o a b = refl
@@ -83,7 +84,8 @@ every-cut h = h
 
 -- ---- from the claims alone
 
--- a note of channel 1 and, when it has ended, one of channel 2: its message has values above 0, and every device takes it, whatever it does
+-- a note of channel 1 and, when it has ended, one of channel 2: its message has values above 0, and every device takes
+-- it, whatever it does
 abbrev pub in-turns : List ℕ
 in-turns = log (Byte 0x90 ∷ Byte 60 ∷ Byte 64 ∷ Report 0 ∷ Byte 0x91 ∷ Byte 60 ∷ Byte 64 ∷ [])
 

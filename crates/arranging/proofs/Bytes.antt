@@ -1,4 +1,5 @@
--- What the loop over the message's bytes cites: its length and each byte by its place; and a line by what the code reads of it.
+-- What the loop over the message's bytes cites: its length and each byte by its place; and a line by what the code
+-- reads of it.
 -- Assumes nothing.
 use mathlib.Core.Path.{_≡_, refl, sym, ap, _∙_}
 use mathlib.Core.Bool.{Bool, true, false}

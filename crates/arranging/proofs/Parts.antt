@@ -1,5 +1,6 @@
--- A log in parts: after any bytes the run holds the record after the lines so far, the largest joint counts so far, and the first seven bytes of the line that
--- is not ended. So its end is the message of the whole log, however the log was cut.
+-- A log in parts: after any bytes the run holds the record after the lines so far, the largest joint counts so far, and
+-- the first seven bytes of the line that is not ended. So its end is the message of the whole log, however the log was
+-- cut.
 -- Assumes nothing.
 use mathlib.Core.Path.{_≡_, refl, sym, ap, _∙_}
 use mathlib.Core.Bool.{Bool, true, false, _||_}

@@ -58,7 +58,8 @@ stays-at-system-on = refl
 abbrev mip : Event → List ℕ
 mip e = log (Byte 0xF0 ∷ Byte 0x7F ∷ Byte 0x00 ∷ Byte 0x0B ∷ Byte 0x01 ∷ e ∷ [])
 
--- a MIP message for ID 0 that a status cuts has not ended; one that its F7 ends has, and without pairs too; then a line of another form is too late, and before it it isn't
+-- a MIP message for ID 0 that a status cuts has not ended; one that its F7 ends has, and without pairs too; then a line
+-- of another form is too late, and before it it isn't
 pub cut : message one-to-sixteen (mip (Byte 0x90)) ≡ whole one-to-sixteen (replicate 16 0) 6
 unfolding upTo firstOf count begun stored oneDataByte dataByte opened ended statusByte split isMip isSystemOn kindOf silent started fresh heard byteTaken taken decimal lineOf loggable eventOf linesFrom each isOrder total busyOn endsMip losesNote spoils atLine fault behindLine lookedAt afterLine records largest values message
 cut = refl

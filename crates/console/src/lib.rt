@@ -1,5 +1,6 @@
-// A program's way to standard input, output and error. Assumes the contracts of the C library's read and write, and nothing else: they say how many bytes a call
-// moved or that it moved none, and not why. So a call that moved none is made again, which goes on after an interruption, and what keeps failing is an error.
+// A program's way to standard input, output and error. Assumes the contracts of the C library's read and write, and
+// nothing else: they say how many bytes a call moved or that it moved none, and not why. So a call that moved none is
+// made again, which goes on after an interruption, and what keeps failing is an error.
 ghost use mathlib.Core.Path.{_≡_};
 ghost use lib.ListN.{length};
 ghost use Prim.Native.Nat.{_+_, _≤_, min};
@@ -8,8 +9,8 @@ use libc::STDERR_FILENO;
 use libc::STDIN_FILENO;
 use libc::STDOUT_FILENO;
 
-// So many calls in a row that move nothing are an error. A signal interrupts a call once and no call a hundred times in a row; an input that has no byte yet and
-// does not wait for one (O_NONBLOCK) is an error that is said.
+// So many calls in a row that move nothing are an error. A signal interrupts a call once and no call a hundred times in
+// a row; an input that has no byte yet and does not wait for one (O_NONBLOCK) is an error that is said.
 const TRIES: u32 = 100;
 
 pub enum Input {
@@ -80,7 +81,8 @@ fn write_to(fd: i32, page: &[u8], to: usize) -> Output
     Output::Whole
 }
 
-// Writes the first `used` bytes of the page, or all of it if that is more than it has. What reaches the other end no contract can say.
+// Writes the first `used` bytes of the page, or all of it if that is more than it has. What reaches the other end no
+// contract can say.
 fn write_first(fd: i32, page: &[u8], used: usize) -> Output
     ensures { λ r. ⌜ Writes (min used (length (now (page .entry)))) r ⌝ }
 {

@@ -1,4 +1,5 @@
--- However an input is cut into reads, its bytes are answered the same: the answers to two parts, one after the other, are those to the whole.
+-- However an input is cut into reads, its bytes are answered the same: the answers to two parts, one after the other,
+-- are those to the whole.
 -- Assumes nothing.
 use Prim.Native.Nat.{ℕ, _+_, _<_}
 use mathlib.Core.Path.{_≡_, refl, sym, _∙_}

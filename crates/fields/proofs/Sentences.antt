@@ -1,4 +1,5 @@
--- What an input is answered, said of lines and their fields (specs/Fields) and not of bytes, whatever the answer of a line is.
+-- What an input is answered, said of lines and their fields (specs/Fields) and not of bytes, whatever the answer of a
+-- line is.
 -- Assumes nothing.
 use Prim.Native.Nat.{ℕ, _+_, _-_}
 use mathlib.Core.Path.{_≡_, refl, sym, _∙_}

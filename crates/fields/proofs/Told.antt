@@ -1,5 +1,6 @@
--- A line is worked out field by field: a field that is a number leaves its number, and any other makes the line malformed, whatever comes behind it. So it is for every
--- program that answers a line of so many numbers by them, one that is too large as what it is kept as, and any other line by one text.
+-- A line is worked out field by field: a field that is a number leaves its number, and any other makes the line
+-- malformed, whatever comes behind it. So it is for every program that answers a line of so many numbers by them, one
+-- that is too large as what it is kept as, and any other line by one text.
 -- Assumes nothing.
 use Prim.Native.Nat.{ℕ, _+_, _-_, _*_, _≤_, _<_}
 use mathlib.Core.Path.{_≡_, refl, _∙_}
@@ -80,7 +81,8 @@ module _ (ended : Line → List ℕ) (commas : ℕ) (by : ℕ → ℕ → ℕ �
       let p = both (isField g) (areFields gs) e in
       from-byte ended c 44 (g ++ behind gs) refl ∙ lost-field g (behind gs) (p .0) (lost-behind gs (p .1)) (read c 44) (lost-on c 44 h)
 
-  -- a field that is no number makes its line malformed: at its first byte that is no digit, or, if it is empty, at its end
+  -- a field that is no number makes its line malformed: at its first byte that is no digit, or, if it is empty, at its
+  -- end
   empty-field : (r k s n : ℕ) (gs : List (List ℕ)) → areFields gs ≡ true → from ended (at r false k s n) (behind gs) ≡ other
   unfolding at read areFields
   empty-field r k s n [] e = from-last ended (at r false k s n) ∙ reads .is (at r false k s n)

@@ -1,4 +1,5 @@
--- The decimal text of a number is digits that spell it: the last digit is the remainder by ten, and those before it spell the quotient.
+-- The decimal text of a number is digits that spell it: the last digit is the remainder by ten, and those before it
+-- spell the quotient.
 -- Assumes nothing.
 use Prim.Native.Nat.{ℕ, zero, suc, _+_, _-_, _*_, _/_, _%_, _^_, _≤_, _<_}
 use mathlib.Core.Path.{_≡_, refl, _∙_}

@@ -1,4 +1,5 @@
--- What the lines of an input are answered, one after another, whatever the answer of a line that has ended is (`ended`): a program's own crate has that.
+-- What the lines of an input are answered, one after another, whatever the answer of a line that has ended is
+-- (`ended`): a program's own crate has that.
 use Prim.Native.Nat.{ℕ}
 use mathlib.Core.List.{List, [], _∷_, _++_}
 use lib.Dec.{eqb}

@@ -1,4 +1,5 @@
--- A line by its fields, cut at its commas: said without its bytes one by one. That a line is answered by them is in proofs/Sentences.
+-- A line by its fields, cut at its commas: said without its bytes one by one. That a line is answered by them is in
+-- proofs/Sentences.
 use Prim.Native.Nat.{ℕ, _+_, _-_, _*_}
 use mathlib.Core.Bool.{Bool, true, false, not, _&&_}
 use mathlib.Core.List.{List, [], _∷_, _++_}

@@ -1,4 +1,5 @@
--- A line of decimal numbers with a comma between each two, byte by byte. All text is ASCII, and every line ends with byte 0AH.
+-- A line of decimal numbers with a comma between each two, byte by byte. All text is ASCII, and every line ends with
+-- byte 0AH.
 use Prim.Native.Nat.{ℕ, _+_, _-_, _*_}
 use mathlib.Core.Bool.{Bool, true, false, not, _&&_}
 use mathlib.Core.List.{List, [], _∷_}

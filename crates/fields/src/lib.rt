@@ -1,5 +1,5 @@
-// A line of decimal numbers with a comma between each two, read byte by byte: up to three numbers, each of any length. What a line's numbers ask for is in crates
-// `pitch_lines` and `song_lines`. Assumes nothing.
+// A line of decimal numbers with a comma between each two, read byte by byte: up to three numbers, each of any length.
+// What a line's numbers ask for is in crates `pitch_lines` and `song_lines`. Assumes nothing.
 ghost use Prim.Native.Nat.{_≤_};
 ghost use mathlib.Core.Path.{_≡_};
 ghost use Rattle.loops.specs.Cases.{atMost};

@@ -1,6 +1,8 @@
-// The programs that read standard input and write standard output, each as a function that answers its exit status. One loop reads for all of them, an input of any
-// length, and what is known is written before more is waited for; the answers to requests of songs, and of a log, go to standard error. What the bytes answer is in crates `listed`, `pitch_lines`, `song_lines`, `log_lines` and `page_lines`. Assumes the contracts of the C
-// library's read and write, and nothing else.
+// The programs that read standard input and write standard output, each as a function that answers its exit status. One
+// loop reads for all of them, an input of any length, and what is known is written before more is waited for; the
+// answers to requests of songs, and of a log, go to standard error. What the bytes answer is in crates `listed`,
+// `pitch_lines`, `song_lines`, `log_lines` and `page_lines`. Assumes the contracts of the C library's read and write,
+// and nothing else.
 ghost use Prim.Native.Nat.{_≤_};
 use arranging::Written;
 use console::Input;
@@ -29,7 +31,8 @@ struct Kept {
     refused: bool,
 }
 
-// After a turn: whether to go on, whether reading or writing failed or, at the end, a request was refused, and what is kept.
+// After a turn: whether to go on, whether reading or writing failed or, at the end, a request was refused, and what is
+// kept.
 struct Turn {
     more: bool,
     failed: bool,
@@ -42,7 +45,8 @@ struct Outcome {
     failed: bool,
 }
 
-// A byte lists no more than 128 bytes, and is answered by no more than 16, so the page has room for what a read of 1,024 calls for. It has room for the longest song too.
+// A byte lists no more than 128 bytes, and is answered by no more than 16, so the page has room for what a read of
+// 1,024 calls for. It has room for the longest song too.
 fn empty_page() -> [u8; 131072] {
     [0u8; 131072]
 }
@@ -133,7 +137,8 @@ fn is_song(a: SongAnswer) -> bool {
     }
 }
 
-// Writes the line of an answer to standard error. If that fails there is no place to tell it, and the status alone says so.
+// Writes the line of an answer to standard error. If that fails there is no place to tell it, and the status alone says
+// so.
 fn answered(line: &[u8], used: usize, refused: bool) -> Outcome {
     let o = console::write_error(line, used);
     match o {
@@ -338,7 +343,8 @@ fn read_once(k: Kept, page: &mut [u8]) -> Turn {
     }
 }
 
-// A proved loop has to end, so the turns are counted down from a number that no input uses up. Answers whether the program failed.
+// A proved loop has to end, so the turns are counted down from a number that no input uses up. Answers whether the
+// program failed.
 fn read_all(k: Kept, page: &mut [u8]) -> bool {
     let mut turns = u64::MAX;
     let mut kept = k;

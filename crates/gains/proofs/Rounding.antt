@@ -1,6 +1,7 @@
--- What rounding to an `f32` adds to an error: at most 2 ^ 125 of the format's smallest values, 2 ^ -149 each, for a fraction that is at most 1; and what is rounded is at most 1 again. A quotient of
--- whole numbers is rounded once. In a product of two such fractions the errors add up (`Frac`), and it is rounded once more. So a gain's three quotients and two products come to 5 * 2 ^ 125 of
--- these values, three ten-millionths.
+-- What rounding to an `f32` adds to an error: at most 2 ^ 125 of the format's smallest values, 2 ^ -149 each, for a
+-- fraction that is at most 1; and what is rounded is at most 1 again. A quotient of whole numbers is rounded once. In a
+-- product of two such fractions the errors add up (`Frac`), and it is rounded once more. So a gain's three quotients
+-- and two products come to 5 * 2 ^ 125 of these values, three ten-millionths.
 -- Assumes nothing.
 use mathlib.Core.Path.{_≡_, refl, sym, ap, _∙_, subst}
 use mathlib.Core.Logic.{_⊎_, inl, inr}
@@ -97,7 +98,8 @@ grid-close a c pos h =
     let k = drop 24 (a * U) c in
     halved U H a c k (closest (a * U) (c * 2 ^ k)) (pow-mono (few a c pos h)) (closest-half (a * U) (c * 2 ^ k) (mul-pos pos (pow-pos k)))
 
--- Rounding keeps the order, and with k digits dropped 1 is still a whole number, q, of what is kept: so that no fraction up to 1 is rounded to more
+-- Rounding keeps the order, and with k digits dropped 1 is still a whole number, q, of what is kept: so that no
+-- fraction up to 1 is rounded to more
 whole : (n : ℕ) → closest n 1 ≡ n
 whole n = let h = closest-half n 1 (omega arith) in let l = h .0 in let r = h .1 in omega arith
 

@@ -1,4 +1,5 @@
--- The laws of the table of weights: one test of each weight and its place, computed in one sweep over the 127 numbers. The code has them in rows of sixteen, so that the test asks for the row too.
+-- The laws of the table of weights: one test of each weight and its place, computed in one sweep over the 127 numbers.
+-- The code has them in rows of sixteen, so that the test asks for the row too.
 -- Assumes nothing.
 use mathlib.Core.Path.{_≡_, refl, sym, ap, _∙_}
 use mathlib.Core.Bool.{Bool}

@@ -1,5 +1,6 @@
--- The words of the contract bite. First a float that is near a fraction, and those that are not; then what a call promises where a hand can check it; then what the laws of a table say of any table.
--- A definition loosened behind its name would not give these facts.
+-- The words of the contract bite. First a float that is near a fraction, and those that are not; then what a call
+-- promises where a hand can check it; then what the laws of a table say of any table. A definition loosened behind its
+-- name would not give these facts.
 -- Assumes nothing.
 use mathlib.Core.Path.{_≡_, refl}
 use mathlib.Core.Bool.{true, false}

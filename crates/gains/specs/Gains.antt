@@ -77,7 +77,8 @@ abbrev pub gainsIn : GainsAnswer → Gains
 gainsIn (GainsAre g) = g
 gainsIn OutOfRange = silent
 
--- what a call answers: its number under its condition and under no other, and its gains. Which float it is, among those near enough, is left free
+-- what a call answers: its number under its condition and under no other, and its gains. Which float it is, among those
+-- near enough, is left free
 abbrev pub Answered : ℕ → ℕ → ℕ → GainsAnswer → Type 0
 Answered e v p a = (gainsNumber a ≡ numberFor e v p) × Gives (isOut e v p) e v p (gainsIn a)
 

@@ -5,8 +5,9 @@ use mathlib.Core.Bool.{false}
 use Prim.Native.Nat.{ℕ, _+_, _*_, _≤_}
 use lib.Ieee.{Float, nan, inf, fin, up, down}
 
--- x is a number, not negative (nor -0), and differs from a / c by at most 1 / M. A float is m times 2 to the power e, which is the fraction m * up e / down e:
--- x ≤ a / c + 1 / M and a / c ≤ x + 1 / M, with the denominators multiplied out.
+-- x is a number, not negative (nor -0), and differs from a / c by at most 1 / M. A float is m times 2 to the power e,
+-- which is the fraction m * up e / down e: x ≤ a / c + 1 / M and a / c ≤ x + 1 / M, with the denominators multiplied
+-- out.
 abbrev pub Within : ℕ → Float → ℕ → ℕ → Type 0
 Within M nan a c = ⊥
 Within M (inf s) a c = ⊥

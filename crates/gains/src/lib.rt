@@ -19,8 +19,8 @@ pub enum GainsAnswer {
     OutOfRange,
 }
 
-// The weights: 32768 times the sine of a quarter circle in 126 steps, to the nearest whole number. Sixteen a row, since a constant array that is read from is made on the stack
-// first, whole.
+// The weights: 32768 times the sine of a quarter circle in 126 steps, to the nearest whole number. Sixteen a row, since
+// a constant array that is read from is made on the stack first, whole.
 const ROW_0: [u16; 16] = [
     0,
     408,
@@ -172,7 +172,8 @@ const ROW_7: [u16; 15] = [
     32768,
 ];
 
-// A weight by its row. Apart from `weight_at`, so that the compiler puts this into it and gives all rows one place on the stack.
+// A weight by its row. Apart from `weight_at`, so that the compiler puts this into it and gives all rows one place on
+// the stack.
 fn weight_in(row: u8, at: u8) -> u16
     requires { ⌜ (at < 16) × (16 * row + at < 127) ⌝ }
     ensures { λ r. ⌜ r ≡ weight (16 * row + at) ⌝ }

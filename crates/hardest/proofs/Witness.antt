@@ -1,5 +1,6 @@
--- The claims bite. First their words, whatever the device: a claim that is narrowed or emptied behind its name would not give these facts. Then what a driver's team draws from the
--- claims alone: the queue for the longest song, and a bound for a song of SysEx, resets and MIP messages that nobody played.
+-- The claims bite. First their words, whatever the device: a claim that is narrowed or emptied behind its name would
+-- not give these facts. Then what a driver's team draws from the claims alone: the queue for the longest song, and a
+-- bound for a song of SysEx, resets and MIP messages that nobody played.
 -- Assumes nothing.
 use mathlib.Core.Path.{_≡_, refl, ap, _∙_, subst}
 use mathlib.Core.Bool.{false}
@@ -65,7 +66,8 @@ pub refused-start : thefts (newDevice 65 0) (song 65536) ≡ 32766
 unfolding mostThefts started fresh
 refused-start = reached 65 0 65536
 
--- GM System On, a MIP message for channels 1 and 2, notes by running status with a real-time byte between, a drum, a pedal, and a data byte that no status is there for
+-- GM System On, a MIP message for channels 1 and 2, notes by running status with a real-time byte between, a drum, a
+-- pedal, and a data byte that no status is there for
 abbrev pub mixed : List ℕ
 mixed =
     0xF0 ∷ 0x7E ∷ 0x7F ∷ 0x09 ∷ 0x01 ∷ 0xF7 ∷ 0xF0 ∷ 0x7F ∷ 0x7F ∷ 0x0B ∷ 0x01 ∷ 0x00 ∷ 0x01 ∷ 0x01 ∷ 0x02 ∷ 0xF7 ∷ 0x40

@@ -1,5 +1,5 @@
--- What the loops over an order cite: a channel looked for among the first n, and one channel more in a joint count: it adds nothing where it stood before, and else
--- its busy generators.
+-- What the loops over an order cite: a channel looked for among the first n, and one channel more in a joint count: it
+-- adds nothing where it stood before, and else its busy generators.
 -- Assumes nothing.
 use mathlib.Core.Path.{_≡_, refl, ap, _∙_}
 use mathlib.Core.Bool.{Bool, true, false, _&&_, _||_}

@@ -10,7 +10,7 @@ use Rattle.playing.specs.declared.Answer.{Answer}
 use Rattle.playing.specs.declared.Answer.the-variants.{Nothing, Done, Note, NoNote, Number}
 use Rattle.lines.specs.declared.Offset.{Offset}
 use Rattle.lines.specs.declared.Offset.the-variants.{At, Nowhere}
-use Rattle.lines.specs.Lines.{field, offsetField, was, dashes, note, lineOf}
+use Rattle.lines.specs.Lines.{field, offsetField, was, lineOf}
 
 field-length : (n : ℕ) → length (field n) ≤ 21
 unfolding field

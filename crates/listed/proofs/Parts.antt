@@ -1,4 +1,5 @@
--- However an input is cut into reads, its bytes list the same: what two parts list one after the other is what the whole lists. And 128 bytes a byte are room for it.
+-- However an input is cut into reads, its bytes list the same: what two parts list one after the other is what the
+-- whole lists. And 128 bytes a byte are room for it.
 -- Assumes nothing.
 use Prim.Native.Nat.{ℕ, _+_, _*_, _≤_, _<_}
 use mathlib.Core.Path.{_≡_, refl, sym, _∙_}

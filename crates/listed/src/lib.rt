@@ -146,7 +146,8 @@ fn one(l: Lister, page: &mut [u8], used: &mut usize, b: u8) -> Lister
     }
 }
 
-// The bytes of a read, listed from the page's start on. Where the page has 128 bytes for each of them, what stands before `used` is what they list, whole.
+// The bytes of a read, listed from the page's start on. Where the page has 128 bytes for each of them, what stands
+// before `used` is what they list, whole.
 pub fn all(l: Lister, page: &mut [u8], bytes: &[u8]) -> Listed
     ensures { λ r. ⌜ Lists (now (page .entry)) 0 (listedBy l (now (bytes .entry))) (afterAll l (now (bytes .entry))) (r .lister) (r .used) (now (page .exit)) ⌝ }
     ensures { λ r. ⌜ (128 * length (now (bytes .entry)) ≤ length (now (page .entry)) → take (r .used) (now (page .exit)) ≡ listedBy l (now (bytes .entry))) ⌝ }

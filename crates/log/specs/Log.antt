@@ -40,7 +40,8 @@ same (x ∷ l) (y ∷ m) = eqb x y && same l m
 unfoldable pub eventOf : List ℕ → Option Event
 eventOf l = firstOf (λ e. same l (lineOf e)) loggable
 
--- a text cut behind each 0AH, with what stands in the line so far; a last part without 0AH is a line, and of another form
+-- a text cut behind each 0AH, with what stands in the line so far; a last part without 0AH is a line, and of another
+-- form
 abbrev pub lastLine : List ℕ → List (List ℕ)
 lastLine [] = []
 lastLine (x ∷ line) = (x ∷ line) ∷ []

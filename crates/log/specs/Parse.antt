@@ -1,5 +1,5 @@
--- How a line is read: by its length, the digits and the letter. That this is `eventOf`, the event whose line it is, is proved in proofs/Lines.antt; no promise
--- to a caller rests on these words.
+-- How a line is read: by its length, the digits and the letter. That this is `eventOf`, the event whose line it is, is
+-- proved in proofs/Lines.antt; no promise to a caller rests on these words.
 -- Assumes nothing.
 use Prim.Native.Nat.{ℕ, _+_, _-_, _*_}
 use mathlib.Core.Bool.{Bool, _&&_, not}

@@ -6,7 +6,8 @@ ghost use Rattle.log.specs.Parse.{isDigit, right, eventBy, parse};
 use events::Event;
 use loops::less;
 
-// The bytes of a line so far, its 0AH included. The first seven are kept and counted: no line of an event is longer than six.
+// The bytes of a line so far, its 0AH included. The first seven are kept and counted: no line of an event is longer
+// than six.
 #[repr(C)]
 pub struct Line {
     pub count: u8,

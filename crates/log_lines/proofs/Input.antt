@@ -1,4 +1,5 @@
--- An input, in whatever parts it is read, comes to the message of the log behind its first line, by the order that that line is; and once a number has fallen, what is behind it changes nothing.
+-- An input, in whatever parts it is read, comes to the message of the log behind its first line, by the order that that
+-- line is; and once a number has fallen, what is behind it changes nothing.
 -- Assumes nothing.
 use Prim.Native.Nat.{ℕ, _+_, _-_, _≤_, _<_}
 use mathlib.Core.Path.{_≡_, refl, sym, ap, _∙_}

@@ -1,4 +1,5 @@
--- The order's line, field by field: a number is put behind those before it, while there is a place; a field that is no number, or one too many, leaves a line that no byte makes an order any more.
+-- The order's line, field by field: a number is put behind those before it, while there is a place; a field that is no
+-- number, or one too many, leaves a line that no byte makes an order any more.
 -- Assumes nothing.
 use Prim.Native.Nat.{ℕ, suc, _+_, _-_, _*_, _≤_, _<_}
 use mathlib.Core.Path.{_≡_, refl, sym, ap, _∙_}

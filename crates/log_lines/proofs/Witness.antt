@@ -1,4 +1,5 @@
--- What is said of the answer bites: nothing beside a number, the message where none fell, and a line's fields. A definition loosened behind its name would not give these facts.
+-- What is said of the answer bites: nothing beside a number, the message where none fell, and a line's fields. A
+-- definition loosened behind its name would not give these facts.
 -- Assumes nothing.
 use mathlib.Core.Path.{_≡_, refl}
 use mathlib.Core.Bool.{true, false}

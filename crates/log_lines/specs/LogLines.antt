@@ -31,7 +31,8 @@ newOrder = orderLine newLine 0 (replicate 16 0)
 abbrev pub lost : OrderLine
 lost = orderLine newLine 17 (replicate 16 0)
 
--- a number with a digit, behind fewer than sixteen, is put behind them: at a comma, and at the line's end. One above 255, which is no channel, is kept as 255
+-- a number with a digit, behind fewer than sixteen, is put behind them: at a comma, and at the line's end. One above
+-- 255, which is no channel, is kept as 255
 abbrev pub isPut : OrderLine → Bool
 isPut c = c .number .digit && eqb (c .number .commas) 0 && ltb (c .count) 16
 

@@ -179,7 +179,8 @@ pub fn end(c: Reading) -> Written
 
 // ---- the answer
 
-// What standard output gets, at the page's start: the message, or nothing beside a number. Where the page has 38 bytes, it stands before the place that is answered, whole.
+// What standard output gets, at the page's start: the message, or nothing beside a number. Where the page has 38 bytes,
+// it stands before the place that is answered, whole.
 pub fn put_message(page: &mut [u8], w: Written) -> usize
     ensures { λ r. ⌜ Put (now (page .entry)) 0 (messageOf w) r (now (page .exit)) ⌝ }
     ensures { λ r. ⌜ (38 ≤ length (now (page .entry)) → take r (now (page .exit)) ≡ messageOf w) ⌝ }
@@ -191,7 +192,8 @@ pub fn put_message(page: &mut [u8], w: Written) -> usize
     put(page, 0, &bytes)
 }
 
-// The answer's line, from this place of the page on: number, line and message. Where the page has 139 bytes from there on, it stands before the place that is answered, whole.
+// The answer's line, from this place of the page on: number, line and message. Where the page has 139 bytes from there
+// on, it stands before the place that is answered, whole.
 pub fn put_written(page: &mut [u8], at: usize, w: Written) -> usize
     ensures { λ r. ⌜ Put (now (page .entry)) at (writtenLine w) r (now (page .exit)) ⌝ }
     ensures { λ r. ⌜ (at + 139 ≤ length (now (page .entry)) → take r (now (page .exit)) ≡ take at (now (page .entry)) ++ writtenLine w) ⌝ }

@@ -1,5 +1,7 @@
--- A function that is lent a log's record to change and bytes to read, and answers a number: a record that a function by value gave is stored whole behind the borrow, and its number read.
--- What two such walks share: the contract, by what the record becomes; the end of the code, from the store on; what is handed back; and the step from the walk to the contract.
+-- A function that is lent a log's record to change and bytes to read, and answers a number: a record that a function by
+-- value gave is stored whole behind the borrow, and its number read. What two such walks share: the contract, by what
+-- the record becomes; the end of the code, from the store on; what is handed back; and the step from the walk to the
+-- contract.
 -- Assumes nothing.
 use mathlib.Core.Path.{_≡_, refl, ap}
 use Prim.Native.Nat.{ℕ}

@@ -1,5 +1,6 @@
--- The assignment by which a function that is lent a record to read copies it: the borrow, which is its first parameter, is looked into, the record read whole into a local, and the
--- borrow shut again. What the walks of such functions share, for any type of record and whatever local it goes to.
+-- The assignment by which a function that is lent a record to read copies it: the borrow, which is its first parameter,
+-- is looked into, the record read whole into a local, and the borrow shut again. What the walks of such functions
+-- share, for any type of record and whatever local it goes to.
 -- Assumes nothing.
 use mathlib.Core.Path.{_≡_, refl, sym, subst}
 use Prim.Native.Nat.{ℕ}

@@ -1,6 +1,8 @@
--- A function that is lent a record to change: the borrow is passed on for good, at its own lifetime and name, so that the record's last value is the one that the function called says; its
--- answer is turned into numbers. If that function answers `takes d n .answer` and leaves `takes d n .device`, for every record d and number n, this one answers the numbers of the first and leaves
--- the second. One walk of the MIR, whatever the name that is called. All that the proof knows of the two functions called is that each meets its contract.
+-- A function that is lent a record to change: the borrow is passed on for good, at its own lifetime and name, so that
+-- the record's last value is the one that the function called says; its answer is turned into numbers. If that function
+-- answers `takes d n .answer` and leaves `takes d n .device`, for every record d and number n, this one answers the
+-- numbers of the first and leaves the second. One walk of the MIR, whatever the name that is called. All that the proof
+-- knows of the two functions called is that each meets its contract.
 -- Assumes nothing.
 use mathlib.Core.Path.{_≡_, refl, ap, _∙_}
 use Prim.Native.Nat.{ℕ, _<_, _^_}
@@ -162,7 +164,8 @@ module _ (name : Name) (takes : Device → ℕ → Output) {M : Type 1} (𝓤 : 
       → Meets 𝓤 H A (lent O.the-row .signature) (WpFn 𝓤 H (𝓣 .C) (𝓣 .Λ) (function name)) (closing 𝓤 H A (lent O.the-row) (clauses takes 𝓤))
   meets 𝓣 known-called known-numbers = walk-meets 𝓤 H A (lent O.the-row) stayed W goes (clauses takes 𝓤) (WpFn 𝓤 H (𝓣 .C) (𝓣 .Λ) (function name)) (WpFn-mono 𝓤 H (W .laws) 𝓣 (function name)) (walks (𝓣 .C) (𝓣 .Λ) (fmOf 𝓤 H (W .laws) 𝓣) known-called known-numbers)
 
--- the law: where the key means that code, the name a routine that meets the contract of the function called, and `answer_numbers` itself, the key's routine meets the contract with numbers
+-- the law: where the key means that code, the name a routine that meets the contract of the function called, and
+-- `answer_numbers` itself, the key's routine meets the contract with numbers
 pub passed-on : (name : Name) (takes : Device → ℕ → Output) {M : Type 1} (𝓤 : URA M) (H : Heap 𝓤) (𝓜 : Model 𝓤 H) (𝓖 : GhostRules 𝓤 H) (𝓡 : Running 𝓤 H 𝓜) (env : Env) (key : Name)
     → Closed 𝓤 H (tables 𝓤 H 𝓜 𝓡 env .C) (tables 𝓤 H 𝓜 𝓡 env .Λ) key (function name) → env #numbers ≡ numbers-def.routine
     → (routine : Routine) → env name ≡ routine → Meets 𝓤 H (𝓖 .A) (lent N.the-row .signature) (𝓡 .run routine) (closing 𝓤 H (𝓖 .A) (lent N.the-row) (called-clauses takes 𝓤))

@@ -1,5 +1,6 @@
-// The device for C and Rust: functions over a record that the caller owns and lends, and answers in plain numbers (include/muntinorris.h). Every one has the exact contract of
-// the call by value that it stands for, for every value of the record. Assumes nothing; a pointer that is no record is the caller's error.
+// The device for C and Rust: functions over a record that the caller owns and lends, and answers in plain numbers
+// (include/muntinorris.h). Every one has the exact contract of the call by value that it stands for, for every value of
+// the record. Assumes nothing; a pointer that is no record is the caller's error.
 ghost use mathlib.Core.Path.{_≡_};
 ghost use Rattle.loops.specs.Cases.{orZero};
 ghost use Rattle.device.specs.Device.{started};
@@ -106,7 +107,8 @@ pub extern "C" fn muntinorris_channel_gains(c: &Channel) -> GainNumbers
     numbers::channel_gain_numbers(*c)
 }
 
-// The hardest song of n bytes for a fresh device of this polyphony, written into the lent buffer and played while it is written.
+// The hardest song of n bytes for a fresh device of this polyphony, written into the lent buffer and played while it is
+// written.
 #[no_mangle]
 pub extern "C" fn muntinorris_write_song(polyphony: u8, n: usize, song: &mut [u8]) -> SongNumbers
     ensures { λ r. ⌜ (r ≡ songNumbers (songAnswer polyphony n (now (song .entry)))) × (now (song .exit) ≡ songWritten polyphony n (now (song .entry))) ⌝ }
@@ -114,7 +116,8 @@ pub extern "C" fn muntinorris_write_song(polyphony: u8, n: usize, song: &mut [u8
     numbers::song_numbers(song::write_song(polyphony, n, song))
 }
 
-// A log is begun with this order of the channels: the record becomes that, whatever it was. 0, or 16 for an order that is none.
+// A log is begun with this order of the channels: the record becomes that, whatever it was. 0, or 16 for an order that
+// is none.
 #[no_mangle]
 pub extern "C" fn muntinorris_log_begin(log: &mut Run, order: &[u8]) -> u8
     ensures { λ r. ⌜ (r ≡ begun (now (order .entry)) .song .number) × (now (log .exit) ≡ begun (now (order .entry))) ⌝ }

@@ -1,4 +1,5 @@
--- What is told of gains in plain numbers bites: the number, and the gains of an accepted and of a refused call. A definition loosened behind its name would not give these facts.
+-- What is told of gains in plain numbers bites: the number, and the gains of an accepted and of a refused call. A
+-- definition loosened behind its name would not give these facts.
 -- Assumes nothing.
 use mathlib.Core.Path.{_≡_, ap}
 use mathlib.Core.Bool.{false}

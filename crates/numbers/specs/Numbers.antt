@@ -61,7 +61,8 @@ shareNumbers NotAChannel = record { number = orZero (shareNumber NotAChannel); s
 abbrev pub pitchNumbers : PitchAnswer → PitchNumbers
 pitchNumbers a = record { entry = pitchIn a .entry; octave = pitchIn a .octave; number = orZero (pitchNumber a) }
 
--- the gains of a call or, beside number 24, 0 and 0: what `gains.Answered` says of the answer, said of the plain numbers
+-- the gains of a call or, beside number 24, 0 and 0: what `gains.Answered` says of the answer, said of the plain
+-- numbers
 abbrev pub GainsTold : ℕ → ℕ → ℕ → GainNumbers → Type 0
 GainsTold e v p r = (r .number ≡ orZero (numberFor e v p)) × Gives (isOut e v p) e v p (record { left = r .left; right = r .right })
 

@@ -1,4 +1,5 @@
-// The answers in plain numbers, as C and Rust have them (include/muntinorris.h), by value, for every answer and every record. Assumes nothing.
+// The answers in plain numbers, as C and Rust have them (include/muntinorris.h), by value, for every answer and every
+// record. Assumes nothing.
 ghost use mathlib.Core.Path.{_≡_};
 ghost use Rattle.loops.specs.Cases.{orZero};
 ghost use Rattle.queries.specs.Queries.{generatorQuery, maskQuery, shareQuery};
@@ -17,7 +18,8 @@ use queries::ShareAnswer;
 use service::PageAnswer;
 use song::SongAnswer;
 
-// An answer: what (0 none, 1 done, 2 a note, 3 a number), the number, channel and key, the generator and what it was (0 idle, 1 release, 2 stolen). A field without meaning is 0.
+// An answer: what (0 none, 1 done, 2 a note, 3 a number), the number, channel and key, the generator and what it was (0
+// idle, 1 release, 2 stolen). A field without meaning is 0.
 #[repr(C)]
 pub struct AnswerNumbers {
     pub what: u8,
@@ -74,6 +76,16 @@ pub struct SongNumbers {
     pub number: u8,
 }
 
+// The answer *none*: every field is 0.
+const BLANK: AnswerNumbers = AnswerNumbers {
+    what: 0,
+    number: 0,
+    channel: 0,
+    key: 0,
+    generator: 0,
+    was: 0,
+};
+
 fn was_number(w: Was) -> u8
     ensures { λ r. ⌜ r ≡ wasNumber w ⌝ }
 {
@@ -87,47 +99,33 @@ fn was_number(w: Was) -> u8
 pub fn answer_numbers(a: Answer) -> AnswerNumbers
     ensures { λ r. ⌜ r ≡ numbersOf a ⌝ }
 {
+    let mut told = BLANK;
     match a {
-        Answer::Nothing => AnswerNumbers {
-            what: 0,
-            number: 0,
-            channel: 0,
-            key: 0,
-            generator: 0,
-            was: 0,
-        },
-        Answer::Done => AnswerNumbers {
-            what: 1,
-            number: 0,
-            channel: 0,
-            key: 0,
-            generator: 0,
-            was: 0,
-        },
-        Answer::Note(channel, key, generator, was) => AnswerNumbers {
-            what: 2,
-            number: 0,
-            channel: channel,
-            key: key,
-            generator: generator,
-            was: was_number(was),
-        },
-        Answer::NoNote(number, channel, key) => AnswerNumbers {
-            what: 3,
-            number: number,
-            channel: channel,
-            key: key,
-            generator: 0,
-            was: 0,
-        },
-        Answer::Number(number) => AnswerNumbers {
-            what: 3,
-            number: number,
-            channel: 0,
-            key: 0,
-            generator: 0,
-            was: 0,
-        },
+        Answer::Nothing => told,
+        Answer::Done => {
+            told.what = 1;
+            told
+        }
+        Answer::Note(channel, key, generator, was) => {
+            told.what = 2;
+            told.channel = channel;
+            told.key = key;
+            told.generator = generator;
+            told.was = was_number(was);
+            told
+        }
+        Answer::NoNote(number, channel, key) => {
+            told.what = 3;
+            told.number = number;
+            told.channel = channel;
+            told.key = key;
+            told
+        }
+        Answer::Number(number) => {
+            told.what = 3;
+            told.number = number;
+            told
+        }
     }
 }
 

@@ -1,4 +1,5 @@
--- An order holds the sixteen channels and nothing else: its sixteen counts come to sixteen, which is its length, so nothing else stands there.
+-- An order holds the sixteen channels and nothing else: its sixteen counts come to sixteen, which is its length, so
+-- nothing else stands there.
 -- Assumes nothing.
 use mathlib.Core.Path.{_≡_, refl, ap, _∙_}
 use mathlib.Core.Bool.{Bool, true, false, _&&_}

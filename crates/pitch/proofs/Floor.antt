@@ -1,5 +1,6 @@
--- Floors of integers, by natural numbers. A position that is counted from 384 below 0, two octaves, is never negative, and there the quotient of natural numbers is the floor. So the octave and the
--- remainder are found without a sign, and two octaves are taken off again.
+-- Floors of integers, by natural numbers. A position that is counted from 384 below 0, two octaves, is never negative,
+-- and there the quotient of natural numbers is the floor. So the octave and the remainder are found without a sign, and
+-- two octaves are taken off again.
 -- Assumes nothing.
 use mathlib.Core.Path.{_≡_, refl, sym, ap, _∙_}
 use mathlib.Core.Bool.{Bool, true, false, cond}
@@ -11,7 +12,8 @@ use lib.IntN.{ℤ, pos, negsuc, negℤ, subℕ, _+ℤ_, _*ℤ_}
 use borrow.Author.Tests.{ltb-true, ltb-false, lt-ltb, le-ltb}
 use Rattle.pitch.specs.Pitch.{floorDiv, rest, position}
 
--- the words: d times the floor, and the remainder, is the number; and the remainder is 0 to d - 1, so that no other quotient can be meant
+-- the words: d times the floor, and the remainder, is the number; and the remainder is 0 to d - 1, so that no other
+-- quotient can be meant
 below-zero : (x n r : ℕ) → x ≡ n + suc r → negℤ (pos x) +ℤ pos r ≡ negsuc n
 below-zero zero n r e = absurd (omega (arith, e))
 below-zero (suc y) n r e = rw (lt-ltb r (suc y) (omega (arith, e))) (ap negsuc (omega (arith, e)))

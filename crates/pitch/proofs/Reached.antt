@@ -1,4 +1,5 @@
--- What the claims speak of is there: the lowest and the highest pitch of all calls, and a floor that is not the quotient rounded toward 0. Computed from the definitions; an entry by the table.
+-- What the claims speak of is there: the lowest and the highest pitch of all calls, and a floor that is not the
+-- quotient rounded toward 0. Computed from the definitions; an entry by the table.
 -- Assumes nothing.
 use mathlib.Core.Path.{_≡_, refl}
 use native.Mathlib.Omega.{arith}

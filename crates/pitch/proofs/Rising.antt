@@ -1,5 +1,7 @@
--- A higher position gives a higher pitch. Counted from two octaves below 0, four times the pitch is a natural number, 2 to the power of the octave times the entry. It rises within an octave since the
--- entries do, and from one to the next since each entry is from 65536 on and below twice that. The fractions are then compared crosswise. Last, the octaves of the positions that calls give.
+-- A higher position gives a higher pitch. Counted from two octaves below 0, four times the pitch is a natural number, 2
+-- to the power of the octave times the entry. It rises within an octave since the entries do, and from one to the next
+-- since each entry is from 65536 on and below twice that. The fractions are then compared crosswise. Last, the octaves
+-- of the positions that calls give.
 -- Assumes nothing.
 use mathlib.Core.Path.{_≡_, refl, sym, ap, subst}
 use mathlib.Core.Bool.{Bool, true, false, cond, _||_}

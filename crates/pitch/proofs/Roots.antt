@@ -1,5 +1,5 @@
--- The table of one octave follows its rule, and rises: one test of each of the 192 numbers, which the checker computes in one sweep. Whatever is asked of an entry is then read off the test at
--- its place; no power is computed again.
+-- The table of one octave follows its rule, and rises: one test of each of the 192 numbers, which the checker computes
+-- in one sweep. Whatever is asked of an entry is then read off the test at its place; no power is computed again.
 -- Assumes nothing.
 use mathlib.Core.Path.{_≡_, refl, sym, ap, _∙_, subst}
 use mathlib.Core.Bool.{Bool, true, false}

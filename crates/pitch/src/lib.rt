@@ -19,8 +19,8 @@ pub enum PitchAnswer {
     OutOfRange,
 }
 
-// The entries of an octave: 65536 times the 192nd roots of 2 to the power 0 to 191, rounded down. Half a semitone a row, since a constant array that is read from is made on
-// the stack first, whole.
+// The entries of an octave: 65536 times the 192nd roots of 2 to the power 0 to 191, rounded down. Half a semitone a
+// row, since a constant array that is read from is made on the stack first, whole.
 const ROW_0: [u32; 8] = [65536, 65773, 66010, 66249, 66489, 66729, 66971, 67213];
 
 const ROW_1: [u32; 8] = [67456, 67700, 67945, 68190, 68437, 68685, 68933, 69182];

@@ -1,4 +1,5 @@
--- An answer's line has at most 13 bytes: a number and an octave of two, an entry of six, and its commas and its end. So 16 bytes a byte of input are room.
+-- An answer's line has at most 13 bytes: a number and an octave of two, an entry of six, and its commas and its end. So
+-- 16 bytes a byte of input are room.
 -- Assumes nothing.
 use Prim.Native.Nat.{ℕ, suc, _*_, _≤_, _<_}
 use mathlib.Core.Bool.{Bool, true, false}

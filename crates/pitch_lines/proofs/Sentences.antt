@@ -1,4 +1,5 @@
--- What an input is answered, said of lines and their fields (specs/Fields) and not of bytes: the laws of crate `fields` for this filter's answer of a line.
+-- What an input is answered, said of lines and their fields (specs/Fields) and not of bytes: the laws of crate `fields`
+-- for this filter's answer of a line.
 -- Assumes nothing.
 use Prim.Native.Nat.{ℕ, suc, _^_, _<_}
 use mathlib.Core.Path.{_≡_, refl, _∙_}
@@ -61,7 +62,8 @@ line-answered f gs e es = sentences.line-told lineAnswer 2 by malformedLine read
 
 -- ---- a call
 
--- a line of three numbers, of any length and with any leading zeros, is answered by their call: also where a number is larger than those that are kept
+-- a line of three numbers, of any length and with any leading zeros, is answered by their call: also where a number is
+-- larger than those that are kept
 pub call-answered : (ks ss bs : List ℕ) → isNumber ks ≡ true → isNumber ss ≡ true → isNumber bs ≡ true
     → answers (ks ++ behind (ss ∷ bs ∷ [])) ≡ answerLine (pitchOf (spelled 0 ks) (spelled 0 ss) (spelled 0 bs))
 unfolding fieldsAnswer areFields

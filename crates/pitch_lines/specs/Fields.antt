@@ -1,4 +1,5 @@
--- A line by its fields, cut at its commas (crate `fields`, specs/Fields): what it is answered, said without its bytes one by one. That the code answers so is in proofs/Sentences.
+-- A line by its fields, cut at its commas (crate `fields`, specs/Fields): what it is answered, said without its bytes
+-- one by one. That the code answers so is in proofs/Sentences.
 use Prim.Native.Nat.{ℕ}
 use mathlib.Core.Bool.{_&&_}
 use mathlib.Core.List.{List, [], _∷_}

@@ -1,5 +1,6 @@
-// The text of the filter `pitches`: a call of the pitch of a note a line, `k,s,b` in decimal, read byte by byte, and for each the line `number,octave,entry` of its
-// answer, put into a page. Reading and writing are the program's. Assumes nothing.
+// The text of the filter `pitches`: a call of the pitch of a note a line, `k,s,b` in decimal, read byte by byte, and
+// for each the line `number,octave,entry` of its answer, put into a page. Reading and writing are the program's.
+// Assumes nothing.
 ghost use Prim.Native.Nat.{_*_, _≤_};
 ghost use mathlib.Core.Path.{_≡_};
 ghost use mathlib.Core.List.{_∷_};
@@ -42,7 +43,8 @@ pub fn put_pitch(page: &mut [u8], at: usize, p: Pitch) -> usize
     put(page, c, b"\n")
 }
 
-// The answer of a line that has ended. A key or a sensitivity above 255 is refused as 255 is, and a bend above 65535 as 65535.
+// The answer of a line that has ended. A key or a sensitivity above 255 is refused as 255 is, and a bend above 65535 as
+// 65535.
 fn put_answer(page: &mut [u8], at: usize, c: Line) -> usize
     ensures { λ r. ⌜ Put (now (page .entry)) at (lineAnswer c) r (now (page .exit)) ⌝ }
 {
@@ -74,7 +76,8 @@ fn one(c: Line, page: &mut [u8], used: &mut usize, b: u8) -> Line
     fields::read(c, b)
 }
 
-// The bytes of a read, answered from the page's start on. Where the page has 16 bytes for each of them, what stands before `used` is what they are answered, whole.
+// The bytes of a read, answered from the page's start on. Where the page has 16 bytes for each of them, what stands
+// before `used` is what they are answered, whole.
 pub fn all(c: Line, page: &mut [u8], bytes: &[u8]) -> Answered
     ensures { λ r. ⌜ Answers (now (page .entry)) 0 (answersTo c (now (bytes .entry))) (afterAll c (now (bytes .entry))) (r .line) (r .used) (now (page .exit)) ⌝ }
     ensures { λ r. ⌜ (16 * length (now (bytes .entry)) ≤ length (now (page .entry)) → take (r .used) (now (page .exit)) ≡ answersTo c (now (bytes .entry))) ⌝ }

@@ -1,5 +1,6 @@
--- The claim, by what every event keeps: each channel in range, and the first data byte that the parser holds at most 127. A data byte is below 128, so that what a channel
--- message carries is at most 127; it is the last byte, or the first one kept. Nothing else touches the channels but a reset, which makes them fresh.
+-- The claim, by what every event keeps: each channel in range, and the first data byte that the parser holds at most
+-- 127. A data byte is below 128, so that what a channel message carries is at most 127; it is the last byte, or the
+-- first one kept. Nothing else touches the channels but a reset, which makes them fresh.
 -- Assumes nothing.
 use mathlib.Core.Path.{_≡_, refl, _∙_}
 use mathlib.Core.Bool.{Bool, true, false, _&&_, _||_}

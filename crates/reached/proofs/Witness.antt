@@ -1,5 +1,6 @@
--- The claim bites. First its words, for any channel, record and start: a claim emptied behind its name would not give these facts. Then what a driver draws from the claim
--- alone, for any list; and a list, computed from the definitions, that reaches every bound at once, on channel 16 and behind a refused start.
+-- The claim bites. First its words, for any channel, record and start: a claim emptied behind its name would not give
+-- these facts. Then what a driver draws from the claim alone, for any list; and a list, computed from the definitions,
+-- that reaches every bound at once, on channel 16 and behind a refused start.
 -- Assumes nothing.
 use mathlib.Core.Path.{_≡_, refl}
 use mathlib.Core.List.{List, [], _∷_}
@@ -67,7 +68,8 @@ module _ (p id : ℕ) (l : List Event) (c : ℕ) (lo : 1 ≤ c) (hi : c ≤ 16) 
 
 -- ---- every bound is reached
 
--- controllers by running status, with RPN 0/0 for the data entry; program; bend. A report, a real-time byte and a number that is no byte stand between
+-- controllers by running status, with RPN 0/0 for the data entry; program; bend. A report, a real-time byte and a
+-- number that is no byte stand between
 abbrev pub loudest : List Event
 loudest =
     Byte 0xBF ∷ Byte 1 ∷ Byte 127 ∷ Byte 7 ∷ Byte 127 ∷ Byte 10 ∷ Byte 127 ∷ Byte 11 ∷ Byte 127 ∷ Byte 64 ∷ Byte 127

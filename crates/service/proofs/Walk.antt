@@ -1,5 +1,5 @@
--- The loop over a table's entries that looks for a channel's place and value: at turn i the answer for the entries from i on, which start at place i + 1, is the
--- answer for all of them. Assumes nothing.
+-- The loop over a table's entries that looks for a channel's place and value: at turn i the answer for the entries from
+-- i on, which start at place i + 1, is the answer for all of them. Assumes nothing.
 use mathlib.Core.Path.{_≡_}
 use mathlib.Core.Bool.{true, false}
 use mathlib.Core.List.{List}

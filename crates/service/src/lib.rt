@@ -198,7 +198,8 @@ fn put_rows(page: &mut [u8], t: Table, p: u8, busy: [u8; 17])
     }
 }
 
-// Writes the page of a device into the first 323 bytes of a buffer; the other bytes keep their content. A buffer that is too short is left as it is.
+// Writes the page of a device into the first 323 bytes of a buffer; the other bytes keep their content. A buffer that
+// is too short is left as it is.
 pub fn write_page(d: Device, page: &mut [u8]) -> PageAnswer
     ensures { λ r. ⌜ (r ≡ pageAnswer (now (page .entry))) × (now (page .exit) ≡ pageAfter d (now (page .entry))) ⌝ }
 {

@@ -1,4 +1,5 @@
--- The page is the note book's: after every list the device has the book's table and P (`Matches`), and counts its notes (`count-notes`).
+-- The page is the note book's: after every list the device has the book's table and P (`Matches`), and counts its notes
+-- (`count-notes`).
 -- Assumes nothing.
 use Prim.Native.Nat.{ℕ}
 use mathlib.Core.Path.{refl}

@@ -1,4 +1,5 @@
--- The page agrees with the queries. A generator from P on is idle, so that asking for all 256 numbers counts what the record's pass over 64 counts.
+-- The page agrees with the queries. A generator from P on is idle, so that asking for all 256 numbers counts what the
+-- record's pass over 64 counts.
 -- Assumes nothing.
 use Prim.Native.Nat.{ℕ, _≤_}
 use mathlib.Core.Path.{_≡_, refl, sym, ap, _∙_}

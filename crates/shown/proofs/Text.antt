@@ -1,5 +1,5 @@
--- The page's bytes are 17 lines of text, for every record of bytes: each field has characters, since a place is at most 16, a count at most 64, and values and shares fit a byte. And
--- numbers are right-aligned.
+-- The page's bytes are 17 lines of text, for every record of bytes: each field has characters, since a place is at most
+-- 16, a count at most 64, and values and shares fit a byte. And numbers are right-aligned.
 -- Assumes nothing.
 use Prim.Native.Nat.{ℕ, zero, suc, _+_, _-_, _/_, _%_, _≤_, _<_}
 use mathlib.Core.Path.{_≡_, refl}

@@ -1,4 +1,5 @@
--- The claims bite. First their words: a claim emptied behind its name would not give these facts. Then a page, computed from the definitions: what stands on it after a list of bytes.
+-- The claims bite. First their words: a claim emptied behind its name would not give these facts. Then a page, computed
+-- from the definitions: what stands on it after a list of bytes.
 -- Assumes nothing.
 use Prim.Native.Nat.{ℕ, zero, suc, _+_, _*_, _<_}
 use mathlib.Core.Path.{_≡_, refl, ap, _∙_}
@@ -144,14 +145,16 @@ seven a = a 7 .1 (omega arith)
 
 -- ---- a page
 
--- P 24. A MIP message: channels 1, 10, 3, 16 with values 2, 12, 12, 100; on channel 1 the pedal, and keys 60 and 62, of which 60 goes up; a drum; on channel 3 a key that goes up
+-- P 24. A MIP message: channels 1, 10, 3, 16 with values 2, 12, 12, 100; on channel 1 the pedal, and keys 60 and 62, of
+-- which 60 goes up; a drum; on channel 3 a key that goes up
 abbrev song : List Event
 song =
     Byte 0xF0 ∷ Byte 0x7F ∷ Byte 0x7F ∷ Byte 0x0B ∷ Byte 0x01 ∷ Byte 0 ∷ Byte 2 ∷ Byte 9 ∷ Byte 12 ∷ Byte 2 ∷ Byte 12 ∷ Byte 15 ∷ Byte 100 ∷ Byte 0xF7
     ∷ Byte 0xB0 ∷ Byte 64 ∷ Byte 127 ∷ Byte 0x90 ∷ Byte 60 ∷ Byte 64 ∷ Byte 62 ∷ Byte 64 ∷ Byte 60 ∷ Byte 0 ∷ Byte 0x99 ∷ Byte 36 ∷ Byte 64
     ∷ Byte 0x92 ∷ Byte 48 ∷ Byte 64 ∷ Byte 48 ∷ Byte 0 ∷ []
 
--- held and sustained notes count, the releasing one of channel 3 does not; channel 16 is listed and masked; the others are not listed
+-- held and sustained notes count, the releasing one of channel 3 does not; channel 16 is listed and masked; the others
+-- are not listed
 pub worked-page : pageText (after Live (begin 24 0) song .device) ≡
     -- CH PR VAL SHR M NT
     67 ∷ 72 ∷ 32 ∷ 80 ∷ 82 ∷ 32 ∷ 86 ∷ 65 ∷ 76 ∷ 32 ∷ 83 ∷ 72 ∷ 82 ∷ 32 ∷ 77 ∷ 32 ∷ 78 ∷ 84 ∷ 10

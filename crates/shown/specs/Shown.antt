@@ -74,7 +74,8 @@ lineAt n text = take 19 (drop (19 * n) text)
 abbrev pub field : ℕ → ℕ → ℕ → Device → List ℕ
 field a w c d = take w (drop a (lineAt c (pageText d)))
 
--- the line of a channel, field by field: `CH`, `SHR`, `M` and `NT` by the queries, `PR` and `VAL`, for which there are none, by the table
+-- the line of a channel, field by field: `CH`, `SHR`, `M` and `NT` by the queries, `PR` and `VAL`, for which there are
+-- none, by the table
 pub record Agrees (d : Device) (c : ℕ) : Type 0 where
   pub channel : field 0 2 c d ≡ inTwo c
   pub place : field 3 2 c d ≡ placeField (standingFrom 1 c (entriesOf (d .instrument .table)))

@@ -1,4 +1,5 @@
--- A page whose first two bytes are for P and the own ID: what is lent of it is all that stands behind them, and with P and 0 in front the song is what standard output gets.
+-- A page whose first two bytes are for P and the own ID: what is lent of it is all that stands behind them, and with P
+-- and 0 in front the song is what standard output gets.
 -- Assumes nothing.
 use Prim.Native.Nat.{ℕ, suc, _-_, _+_, _≤_, _<_}
 use mathlib.Core.Path.{_≡_, refl, sym, ap, _∙_}

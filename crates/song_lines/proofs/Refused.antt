@@ -1,4 +1,5 @@
--- A P or an n that is above all that are accepted may be cut to one that is refused too: what the request gets stays. And a page may serve for the next song: it stays as long.
+-- A P or an n that is above all that are accepted may be cut to one that is refused too: what the request gets stays.
+-- And a page may serve for the next song: it stays as long.
 -- Assumes nothing.
 use Prim.Native.Nat.{ℕ, _≤_, _<_}
 use mathlib.Core.Path.{_≡_, refl}

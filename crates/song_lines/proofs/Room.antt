@@ -1,4 +1,5 @@
--- The line of an answer has at most 13 bytes: a number of at most two digits, thefts of at most ten, a comma and its end. So 16 bytes are room.
+-- The line of an answer has at most 13 bytes: a number of at most two digits, thefts of at most ten, a comma and its
+-- end. So 16 bytes are room.
 -- Assumes nothing.
 use Prim.Native.Nat.{ℕ, _≤_, _<_}
 use mathlib.Core.Path.{_≡_}

@@ -1,4 +1,5 @@
--- What an input gets, said of lines and their fields and not of bytes: the laws of crate `fields` for what a request gets, on standard error and on standard output.
+-- What an input gets, said of lines and their fields and not of bytes: the laws of crate `fields` for what a request
+-- gets, on standard error and on standard output.
 -- Assumes nothing.
 use Prim.Native.Nat.{ℕ, _^_, _<_}
 use mathlib.Core.Path.{_≡_, refl, _∙_}

@@ -1,4 +1,5 @@
--- What is said of a song in a page bites: its answer, what standard output gets, and a page without room. A definition loosened behind its name would not give these facts.
+-- What is said of a song in a page bites: its answer, what standard output gets, and a page without room. A definition
+-- loosened behind its name would not give these facts.
 -- Assumes nothing.
 use Prim.Native.Nat.{ℕ, _≤_}
 use mathlib.Core.Path.{_≡_, _∙_, ap}

@@ -60,7 +60,8 @@ songTo room Nothing = []
 songTo room Malformed = []
 songTo room (Song p n) = withSong p n (songAnswer p n room)
 
--- a song put at a page's start, where the page has room for P and the own ID before it: its answer, how many bytes standard output gets, and the page behind it
+-- a song put at a page's start, where the page has room for P and the own ID before it: its answer, how many bytes
+-- standard output gets, and the page behind it
 pub record SongPut (p n : ℕ) (old : List ℕ) (a : SongAnswer) (used : ℕ) (new : List ℕ) : Type 0 where
   pub answered : 2 ≤ length old → a ≡ songAnswer p n (drop 2 old)
   pub put : 2 ≤ length old → take used new ≡ songTo (drop 2 old) (Song p n)
@@ -75,7 +76,8 @@ songs room input = allAnswersBy (λ c. songTo room (lineRequest c)) input
 
 -- ---- a line by its fields
 
--- a request is two fields, each a number; any other line is malformed. That an input gets what its lines' fields ask for is in proofs/Sentences
+-- a request is two fields, each a number; any other line is malformed. That an input gets what its lines' fields ask
+-- for is in proofs/Sentences
 unfoldable pub fieldsRequest : List ℕ → List (List ℕ) → Request
 fieldsRequest p [] = Malformed
 fieldsRequest p (n ∷ []) = if isNumber p && isNumber n then Song (spelled 0 p) (spelled 0 n) else Malformed

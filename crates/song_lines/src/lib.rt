@@ -1,5 +1,6 @@
-// The text of the program `hardest_song`: a request a line, `P,n` in decimal, read byte by byte, and for each the line `number,thefts` of its answer, put into a page. The
-// song is crate `song`'s, and reading and writing are the program's. Assumes nothing.
+// The text of the program `hardest_song`: a request a line, `P,n` in decimal, read byte by byte, and for each the line
+// `number,thefts` of its answer, put into a page. The song is crate `song`'s, and reading and writing are the
+// program's. Assumes nothing.
 ghost use Prim.Native.Nat.{_≤_};
 ghost use mathlib.Core.Path.{_≡_};
 ghost use mathlib.Core.List.{_++_};
@@ -85,7 +86,8 @@ fn write_behind(page: &mut [u8], polyphony: u8, n: usize) -> SongAnswer
     song::write_song(polyphony, n, &mut page[2..])
 }
 
-// A song at the page's start, behind its P and the own ID 0, which is what standard output gets; a refused one gets nothing. A page without two bytes has no room for one.
+// A song at the page's start, behind its P and the own ID 0, which is what standard output gets; a refused one gets
+// nothing. A page without two bytes has no room for one.
 pub fn put_song(page: &mut [u8], polyphony: u8, n: usize) -> Written
     ensures { λ r. ⌜ SongPut polyphony n (now (page .entry)) (r .answer) (r .used) (now (page .exit)) ⌝ }
 {
@@ -116,7 +118,8 @@ pub fn put_song(page: &mut [u8], polyphony: u8, n: usize) -> Written
     }
 }
 
-// The answer's line, at the page's start. Where the page has 16 bytes, what stands before the place that it answers is the line, whole.
+// The answer's line, at the page's start. Where the page has 16 bytes, what stands before the place that it answers is
+// the line, whole.
 pub fn put_answer(page: &mut [u8], a: SongAnswer) -> usize
     ensures { λ r. ⌜ Put (now (page .entry)) 0 (answerLine a) r (now (page .exit)) ⌝ }
     ensures { λ r. ⌜ (16 ≤ length (now (page .entry)) → take r (now (page .exit)) ≡ answerLine a) ⌝ }

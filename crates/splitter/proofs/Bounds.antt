@@ -1,5 +1,6 @@
--- The parser holds 37 bytes and counts no further, whatever comes: of a SysEx of any length it keeps the first 37 data bytes. An endless SysEx is neither
--- stored nor overflows, and one that fills the parser is too long for every message that counts.
+-- The parser holds 37 bytes and counts no further, whatever comes: of a SysEx of any length it keeps the first 37 data
+-- bytes. An endless SysEx is neither stored nor overflows, and one that fills the parser is too long for every message
+-- that counts.
 -- Assumes nothing.
 use mathlib.Core.Path.{_≡_, refl, sym, ap, _∙_}
 use mathlib.Core.Bool.{Bool, true, false}
@@ -45,7 +46,8 @@ either : {A : Type 0} (Q : A → Type 0) (t : Bool) {x y : A} → Q x → Q y �
 either Q true p q = p
 either Q false p q = q
 
--- after any byte the parser is the one before, that with the byte stored, or one with no data byte yet: what holds of these holds after every byte
+-- after any byte the parser is the one before, that with the byte stored, or one with no data byte yet: what holds of
+-- these holds after every byte
 pub after-split : (Q : Parser → Type 0) (p : Parser) (b : ℕ) → Q p → Q (stored p b) → ((s : ℕ) → Q (begun s)) → Q (split p b .parser)
 unfolding split dataByte completed statusByte opened
 after-split Q p b same more none =

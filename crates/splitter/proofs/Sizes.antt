@@ -1,4 +1,5 @@
--- A parser that a function owns holds 37 bytes: what owning one tells, for callers whose reads or lists need the length.
+-- A parser that a function owns holds 37 bytes: what owning one tells, for callers whose reads or lists need the
+-- length.
 -- Assumes nothing.
 use mathlib.Core.Path.{_≡_}
 use mathlib.Core.List.{List}

@@ -5,8 +5,9 @@ ghost use mathlib.Core.Path.{_≡_};
 ghost use Rattle.splitter.specs.Split.{begun, quiet, stored, oneDataByte, atLast, completed, dataByte, ended, split};
 use loops::if_else;
 
-// Between two bytes: the status byte in force, 0 for none (F0 while a SysEx is open, F1 to F3 while data bytes are swallowed), the number of
-// data bytes since, and these bytes. Of a SysEx the first 37 are kept and counted: a longer one is as wrong at 37 as at any length.
+// Between two bytes: the status byte in force, 0 for none (F0 while a SysEx is open, F1 to F3 while data bytes are
+// swallowed), the number of data bytes since, and these bytes. Of a SysEx the first 37 are kept and counted: a longer
+// one is as wrong at 37 as at any length.
 #[repr(C)]
 pub struct Parser {
     pub status: u8,
@@ -16,7 +17,8 @@ pub struct Parser {
 
 // What a byte completed.
 pub enum Completed {
-    // Nothing yet, or nothing that counts: a status, a first data byte, a byte of a SysEx, a swallowed or a real-time byte.
+    // Nothing yet, or nothing that counts: a status, a first data byte, a byte of a SysEx, a swallowed or a real-time
+    // byte.
     Nothing,
     // Number 3: a data byte without a status, a SysEx or something to swallow it.
     Stray,
@@ -139,7 +141,8 @@ impl Parser {
         Parser::begin(if_else(b < 0xF4, b, 0))
     }
 
-    // One byte: the parser after it, and what it completed. Two functions, so that who wants one of them does not pay for both.
+    // One byte: the parser after it, and what it completed. Two functions, so that who wants one of them does not pay
+    // for both.
     pub fn split(self, b: u8) -> Split
         ensures { λ r. ⌜ r ≡ split self b ⌝ }
     {

@@ -1,4 +1,5 @@
--- Two texts put one behind the other are one text, also where the page ends within one of them: past the end nothing is stored.
+-- Two texts put one behind the other are one text, also where the page ends within one of them: past the end nothing is
+-- stored.
 -- Assumes nothing.
 use Prim.Native.Nat.{ℕ, suc, _+_, _≤_, _<_, min, max}
 use mathlib.Core.Path.{_≡_, refl, sym, _∙_}

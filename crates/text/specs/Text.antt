@@ -7,8 +7,9 @@ use lib.ListN.{length}
 use lib.Seq.{sets}
 use Rattle.loops.specs.Cases.{if_then_else_}
 
--- A text put at a place of a page, with the place and the page that this leaves. The place is the one behind the text, or the page's end if the text ran into
--- it; a place past the end stays. The page has the text's bytes stored from the place on, each that falls within it, and every other byte as it was.
+-- A text put at a place of a page, with the place and the page that this leaves. The place is the one behind the text,
+-- or the page's end if the text ran into it; a place past the end stays. The page has the text's bytes stored from the
+-- place on, each that falls within it, and every other byte as it was.
 pub record Put (old : List ℕ) (at : ℕ) (text : List ℕ) (next : ℕ) (new : List ℕ) : Type 0 where
   pub place : next ≡ max at (min (at + length text) (length old))
   pub page : new ≡ sets old at text

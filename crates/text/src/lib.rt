@@ -1,5 +1,5 @@
-// Text in a page of bytes, in which a program collects its output so that one write carries many lines. A text goes to a place of the page, as far as there is
-// room for it, and the answer is the place behind it. Assumes nothing.
+// Text in a page of bytes, in which a program collects its output so that one write carries many lines. A text goes to
+// a place of the page, as far as there is room for it, and the answer is the place behind it. Assumes nothing.
 ghost use Prim.Native.Nat.{_<_};
 ghost use mathlib.Core.Path.{_≡_};
 ghost use mathlib.Core.List.{[], _∷_};

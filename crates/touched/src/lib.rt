@@ -1,5 +1,5 @@
-// What a byte touches of the record, by what it completed: the parser alone, the generators too, or all of it. By value, for the calls over the lent
-// record (`driver`). Assumes nothing.
+// What a byte touches of the record, by what it completed: the parser alone, the generators too, or all of it. By
+// value, for the calls over the lent record (`driver`). Assumes nothing.
 ghost use mathlib.Core.Path.{_≡_};
 ghost use Rattle.touched.specs.Touched.{isQuiet, quietAnswer, keyIn, keyOf, noKey};
 use message::Message;

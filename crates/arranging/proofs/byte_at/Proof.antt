@@ -1,4 +1,5 @@
--- `arranging::byte_at` meets its contract: the head, the end, and between them a channel or a value by the place's parity.
+-- `arranging::byte_at` meets its contract: the head, the end, and between them a channel or a value by the place's
+-- parity.
 -- Assumes nothing.
 use Prim.Native.Nat.{_-_, _/_, _%_}
 use mathlib.Core.Path.{_≡_, _∙_}

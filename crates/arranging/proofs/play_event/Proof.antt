@@ -1,4 +1,5 @@
--- `arranging::play_event` meets its contract: the code tests what spoils the log, then raises the counts by the record after the event, unless the answer was none.
+-- `arranging::play_event` meets its contract: the code tests what spoils the log, then raises the counts by the record
+-- after the event, unless the answer was none.
 -- Assumes nothing.
 use mathlib.Core.Path.{_∙_, sym}
 use Rattle.arranging.specs.Arranging.{spoils}

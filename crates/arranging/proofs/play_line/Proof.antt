@@ -1,4 +1,5 @@
--- `arranging::play_line` meets its contract: behind a number no line is looked at; else what `log::read` says of the line is played.
+-- `arranging::play_line` meets its contract: behind a number no line is looked at; else what `log::read` says of the
+-- line is played.
 -- Assumes nothing.
 use mathlib.Core.Path.{sym, ap, _∙_}
 use borrow.Author.Tests.{not-true, not-false}

@@ -1,4 +1,5 @@
--- `arranging::take` meets its contract. Invariant: what is left of the part, heard by the song and the line so far, is the whole part heard by the run.
+-- `arranging::take` meets its contract. Invariant: what is left of the part, heard by the song and the line so far, is
+-- the whole part heard by the run.
 -- Assumes nothing.
 use Prim.Native.Nat.{_-_, _≤_}
 use mathlib.Core.Path.{_≡_, refl, sym, ap, _∙_}

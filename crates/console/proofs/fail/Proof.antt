@@ -4,11 +4,5 @@ use borrow.Author.Needs.{needs}
 use Rattle.console.proofs.fail.Statement.{statement}
 use Rattle.console.proofs.fail.Tie as tie
 
-write-to-requires : tie.Need-write-to-requires
-write-to-requires c κs = search needs
-
-returns : tie.Need-returns
-returns c = search needs
-
 pub fail-spec : {M : Type 1} → statement M
-fail-spec = tie.close (tie.spec write-to-requires returns)
+fail-spec = tie.close (tie.spec (λ c κs. search needs) (λ c. search needs))

@@ -4,14 +4,5 @@ use borrow.Author.Needs.{needs}
 use Rattle.console.proofs.input_of.Statement.{statement}
 use Rattle.console.proofs.input_of.Tie as tie
 
-count-requires : tie.Need-count-requires
-count-requires c κs = search needs
-
-returns : tie.Need-returns
-returns c = search needs
-
-returns-2 : tie.Need-returns-2
-returns-2 c = search needs
-
 pub input-of-spec : {M : Type 1} → statement M
-input-of-spec = tie.close (tie.spec count-requires returns returns-2)
+input-of-spec = tie.close (tie.spec (λ c κs. search needs) (λ c. search needs) (λ c. search needs))

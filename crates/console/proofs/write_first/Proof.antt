@@ -15,17 +15,11 @@ within used size r h w = let e : min used size ≡ used = omega arith in rw e w
 beyond : (used size : ℕ) (r : Output) → size < used → Writes size r → Writes (min used size) r
 beyond used size r h w = let e : min used size ≡ size = omega arith in rw e w
 
-write-to-requires : tie.Need-write-to-requires
-write-to-requires c κs = search needs
-
 returns : tie.Need-returns
 returns c = within _ _ (c .write-to .result) (c .before .if1 .taken) (c .write-to .ensures)
-
-write-to-requires-2 : tie.Need-write-to-requires-2
-write-to-requires-2 c κs = search needs
 
 returns-2 : tie.Need-returns-2
 returns-2 c = beyond _ _ (c .write-to2 .result) (c .before .if1 .left) (c .write-to2 .ensures)
 
 pub write-first-spec : {M : Type 1} → statement M
-write-first-spec = tie.close (tie.spec write-to-requires returns write-to-requires-2 returns-2)
+write-first-spec = tie.close (tie.spec (λ c κs. search needs) returns (λ c κs. search needs) returns-2)

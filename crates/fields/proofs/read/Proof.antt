@@ -1,4 +1,5 @@
--- `fields::read`: the two tests are those of the definition, and what they say of the byte and of the number that is read keeps the code within its types.
+-- `fields::read`: the two tests are those of the definition, and what they say of the byte and of the number that is
+-- read keeps the code within its types.
 -- Assumes nothing.
 use Prim.Native.Nat.{_<_}
 use mathlib.Core.Bool.{_&&_}
@@ -10,26 +11,8 @@ use Rattle.fields.proofs.Numbers.{both}
 use Rattle.fields.proofs.read.Statement.{statement}
 use Rattle.fields.proofs.read.Tie as tie
 
-cast-at-most : tie.Need-cast-at-most
-cast-at-most c = search needs
-
-mul-at-most : tie.Need-mul-at-most
-mul-at-most c = search needs
-
 sub-at-most : tie.Need-sub-at-most
 sub-at-most c = leb-true _ _ (both _ _ (c .before .if1 .taken) .0)
-
-cast-at-most-2 : tie.Need-cast-at-most-2
-cast-at-most-2 c = search needs
-
-add-at-most : tie.Need-add-at-most
-add-at-most c = search needs
-
-at-most-requires : tie.Need-at-most-requires
-at-most-requires c κs = search needs
-
-cast-t12 : tie.Need-cast-t12
-cast-t12 c = search needs
 
 returns : tie.Need-returns
 unfolding read afterDigit
@@ -54,13 +37,13 @@ pub read-spec : {M : Type 1} → statement M
 read-spec =
     tie.close
     (tie.spec
-    cast-at-most
-    mul-at-most
+    (λ c. search needs)
+    (λ c. search needs)
     sub-at-most
-    cast-at-most-2
-    add-at-most
-    at-most-requires
-    cast-t12
+    (λ c. search needs)
+    (λ c. search needs)
+    (λ c κs. search needs)
+    (λ c. search needs)
     returns
     add-t14
     returns-2

@@ -4,11 +4,8 @@ use borrow.Author.Needs.{needs}
 use Rattle.gains.proofs.channel_gains.Statement.{statement}
 use Rattle.gains.proofs.channel_gains.Tie as tie
 
-gains-of-requires : tie.Need-gains-of-requires
-gains-of-requires c κs = search needs
-
 returns : tie.Need-returns
 returns c = c .gains-of .ensures
 
 pub channel-gains-spec : {M : Type 1} → statement M
-channel-gains-spec = tie.close (tie.spec gains-of-requires returns)
+channel-gains-spec = tie.close (tie.spec (λ c κs. search needs) returns)

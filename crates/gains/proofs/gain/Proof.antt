@@ -1,4 +1,5 @@
--- `gains::gain` meets its contract: three quotients and two products, each with its error (`Rounding`), which come to less than a millionth.
+-- `gains::gain` meets its contract: three quotients and two products, each with its error (`Rounding`), which come to
+-- less than a millionth.
 -- Assumes nothing.
 use mathlib.Core.Path.{refl}
 use Prim.Native.Nat.{ℕ, _*_, _≤_, _<_}
@@ -44,17 +45,8 @@ mul-e2 c = record { fits = lt-of-le-of-lt (square (c .args .e) (search needs)) (
 mul-v2 : tie.Need-mul-v2
 mul-v2 c = record { fits = lt-of-le-of-lt (square (c .args .v) (search needs)) (lit< tt) }
 
-int-to-float-result : tie.Need-int-to-float-result
-int-to-float-result c = search needs
-
-int-to-float-result-2 : tie.Need-int-to-float-result-2
-int-to-float-result-2 c = search needs
-
-int-to-float-result-3 : tie.Need-int-to-float-result-3
-int-to-float-result-3 c = search needs
-
 returns : tie.Need-returns
 returns c = let a = c .before .before .before .args in gained (a .e) (a .v) (a .w) (search needs) (search needs) (search needs)
 
 pub gain-spec : {M : Type 1} → statement M
-gain-spec = tie.close (tie.spec mul-e2 mul-v2 int-to-float-result int-to-float-result-2 int-to-float-result-3 returns)
+gain-spec = tie.close (tie.spec mul-e2 mul-v2 (λ c. search needs) (λ c. search needs) (λ c. search needs) returns)

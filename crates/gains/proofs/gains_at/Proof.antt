@@ -12,21 +12,6 @@ use Rattle.gains.proofs.gains_at.Tie as tie
 with-weight : (e v n w : ℕ) (x : Float) → n ≡ w → Near e v n x → Near e v w x
 with-weight e v n w x h = subst (λ (m : ℕ). Near e v m x) h
 
-sub-weight-at : tie.Need-sub-weight-at
-sub-weight-at c = search needs
-
-weight-at-requires : tie.Need-weight-at-requires
-weight-at-requires c κs = search needs
-
-weight-at-requires-2 : tie.Need-weight-at-requires-2
-weight-at-requires-2 c κs = search needs
-
-gain-requires : tie.Need-gain-requires
-gain-requires c κs = search needs
-
-gain-requires-2 : tie.Need-gain-requires-2
-gain-requires-2 c κs = search needs
-
 returns : tie.Need-returns
 returns c =
     let left = c .before .before .before .weight-at .ensures .0 in
@@ -36,4 +21,4 @@ returns c =
 pub gains-at-spec : {M : Type 1} → statement M
 gains-at-spec =
     tie.close
-    (tie.spec sub-weight-at weight-at-requires weight-at-requires-2 gain-requires gain-requires-2 returns)
+    (tie.spec (λ c. search needs) (λ c κs. search needs) (λ c κs. search needs) (λ c κs. search needs) (λ c κs. search needs) returns)

@@ -36,12 +36,6 @@ returns-3 c =
     let a = c .before .before .before .args in
     refused (a .expression) (a .volume) (a .pan) (simp (le-ltb _ _ (c .before .before .if1 .left), le-ltb _ _ (c .before .if2 .left), lt-ltb _ _ (c .if3 .taken)))
 
-place-of-requires : tie.Need-place-of-requires
-place-of-requires c κs = search needs
-
-gains-at-requires : tie.Need-gains-at-requires
-gains-at-requires c κs = search needs
-
 returns-4 : tie.Need-returns-4
 returns-4 c =
     let b = c .before in
@@ -52,4 +46,4 @@ returns-4 c =
 
 pub gains-of-spec : {M : Type 1} → statement M
 gains-of-spec =
-    tie.close (tie.spec returns returns-2 returns-3 place-of-requires gains-at-requires returns-4)
+    tie.close (tie.spec returns returns-2 returns-3 (λ c κs. search needs) (λ c κs. search needs) returns-4)

@@ -8,11 +8,8 @@ use Rattle.gains.proofs.place_of.Tie as tie
 returns : tie.Need-returns
 returns c = (omega arith, omega arith)
 
-sub-result : tie.Need-sub-result
-sub-result c = search needs
-
 returns-2 : tie.Need-returns-2
 returns-2 c = (omega arith, omega arith)
 
 pub place-of-spec : {M : Type 1} → statement M
-place-of-spec = tie.close (tie.spec sub-result returns returns-2)
+place-of-spec = tie.close (tie.spec (λ c. search needs) returns returns-2)

@@ -1,4 +1,5 @@
--- `gains::weight_at` meets its contract: a place is 16 times its row and what is left, and no weight is above the last (`Weights`).
+-- `gains::weight_at` meets its contract: a place is 16 times its row and what is left, and no weight is above the last
+-- (`Weights`).
 -- Assumes nothing.
 use mathlib.Core.Path.{_≡_, sym, subst, ap, _∙_}
 use Prim.Native.Nat.{ℕ, _+_, _*_, _/_, _%_, _≤_, _<_}
@@ -15,11 +16,8 @@ told p n h e =
     let w : n ≡ weight p = e ∙ ap weight back in
     (w, subst (λ (x : ℕ). x ≤ 32768) (sym w) (at-most p h))
 
-weight-in-requires : tie.Need-weight-in-requires
-weight-in-requires c κs = search needs
-
 returns : tie.Need-returns
 returns c = told (c .before .args .p) (c .weight-in .result) (search needs) (c .weight-in .ensures)
 
 pub weight-at-spec : {M : Type 1} → statement M
-weight-at-spec = tie.close (tie.spec weight-in-requires returns)
+weight-at-spec = tie.close (tie.spec (λ c κs. search needs) returns)

@@ -23,51 +23,6 @@ last s j h a b c d e f g =
     let l = past 6 s (past 5 s (past 4 s (past 3 s (past 2 s (past 1 s (past 0 s (omega arith) a) b) c) d) e) f) g in
     omega (arith, h, l)
 
-mul-result : tie.Need-mul-result
-mul-result c = search needs
-
-array-read-result : tie.Need-array-read-result
-array-read-result c = search needs
-
-mul-result-2 : tie.Need-mul-result-2
-mul-result-2 c = search needs
-
-array-read-result-2 : tie.Need-array-read-result-2
-array-read-result-2 c = search needs
-
-mul-result-3 : tie.Need-mul-result-3
-mul-result-3 c = search needs
-
-array-read-result-3 : tie.Need-array-read-result-3
-array-read-result-3 c = search needs
-
-mul-result-4 : tie.Need-mul-result-4
-mul-result-4 c = search needs
-
-array-read-result-4 : tie.Need-array-read-result-4
-array-read-result-4 c = search needs
-
-mul-result-5 : tie.Need-mul-result-5
-mul-result-5 c = search needs
-
-array-read-result-5 : tie.Need-array-read-result-5
-array-read-result-5 c = search needs
-
-mul-result-6 : tie.Need-mul-result-6
-mul-result-6 c = search needs
-
-array-read-result-6 : tie.Need-array-read-result-6
-array-read-result-6 c = search needs
-
-mul-result-7 : tie.Need-mul-result-7
-mul-result-7 c = search needs
-
-array-read-result-7 : tie.Need-array-read-result-7
-array-read-result-7 c = search needs
-
-mul-result-8 : tie.Need-mul-result-8
-mul-result-8 c = search needs
-
 array-read-result-8 : tie.Need-array-read-result-8
 array-read-result-8 c =
     let a = c .before .args in
@@ -108,21 +63,21 @@ pub weight-in-spec : {M : Type 1} → statement M
 weight-in-spec =
     tie.close
     (tie.spec
-    mul-result
-    array-read-result
-    mul-result-2
-    array-read-result-2
-    mul-result-3
-    array-read-result-3
-    mul-result-4
-    array-read-result-4
-    mul-result-5
-    array-read-result-5
-    mul-result-6
-    array-read-result-6
-    mul-result-7
-    array-read-result-7
-    mul-result-8
+    (λ c. search needs)
+    (λ c. search needs)
+    (λ c. search needs)
+    (λ c. search needs)
+    (λ c. search needs)
+    (λ c. search needs)
+    (λ c. search needs)
+    (λ c. search needs)
+    (λ c. search needs)
+    (λ c. search needs)
+    (λ c. search needs)
+    (λ c. search needs)
+    (λ c. search needs)
+    (λ c. search needs)
+    (λ c. search needs)
     array-read-result-8
     returns
     returns-2

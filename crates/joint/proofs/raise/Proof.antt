@@ -1,4 +1,5 @@
--- `joint::raise` meets its contract. Invariant: joint is the joint count of the first k channels, and the first k counts are raised.
+-- `joint::raise` meets its contract. Invariant: joint is the joint count of the first k channels, and the first k
+-- counts are raised.
 -- Assumes nothing.
 use Prim.Native.Nat.{ℕ, _+_, _-_, _≤_}
 use mathlib.Core.Path.{_≡_, refl, sym, ap, _∙_}

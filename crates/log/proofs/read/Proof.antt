@@ -1,4 +1,5 @@
--- `log::read` meets its contract: a line of four, five or six bytes is read by its digits, and any other is of another form.
+-- `log::read` meets its contract: a line of four, five or six bytes is read by its digits, and any other is of another
+-- form.
 -- Assumes nothing.
 use mathlib.Core.Path.{_∙_, ap, sym}
 use Rattle.log.specs.Log.{meaningOf}

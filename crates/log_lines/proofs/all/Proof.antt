@@ -1,4 +1,5 @@
--- `log_lines::all`: in the log all is heard at once. In the order's line the invariant is that what is left of the bytes, read by what is kept, is all of them; the measure is what is left.
+-- `log_lines::all`: in the log all is heard at once. In the order's line the invariant is that what is left of the
+-- bytes, read by what is kept, is all of them; the measure is what is left.
 -- Assumes nothing.
 use Prim.Native.Nat.{_+_, _-_, _≤_}
 use mathlib.Core.Path.{_≡_, refl, sym, ap, _∙_}

@@ -6,9 +6,6 @@ use borrow.Author.Needs.{needs}
 use Rattle.message.proofs.read.Statement.{statement}
 use Rattle.message.proofs.read.Tie as tie
 
-add-channel : tie.Need-add-channel
-add-channel c = search needs
-
 returns : tie.Need-returns
 unfolding decode
 returns c = rw (c .before .match .keys2, eq-eqb _ _ (c .if1 .taken))
@@ -40,4 +37,4 @@ returns-7 c = simp (ne-eqb _ _ (c .match .rest .0 .0 .0 .0 .1), ne-eqb _ _ (c .m
 pub read-spec : {M : Type 1} → statement M
 read-spec =
     tie.close
-    (tie.spec add-channel returns returns-2 returns-3 returns-4 returns-5 returns-6 returns-7)
+    (tie.spec (λ c. search needs) returns returns-2 returns-3 returns-4 returns-5 returns-6 returns-7)

@@ -1,4 +1,5 @@
--- `muntinorris::muntinorris_byte` meets its contract: `PassedOn`'s law at `driver::byte`, whose contract is all that is known of it.
+-- `muntinorris::muntinorris_byte` meets its contract: `PassedOn`'s law at `driver::byte`, whose contract is all that is
+-- known of it.
 -- Assumes nothing.
 use Rattle.events.specs.Events.{taken}
 use Rattle.events.specs.declared.Event.the-variants.{Byte}

@@ -1,4 +1,5 @@
--- `muntinorris::muntinorris_channel_gains` meets its contract: `CopiedAlone`'s law at `channel_gain_numbers`, whose contract is all that is known of it.
+-- `muntinorris::muntinorris_channel_gains` meets its contract: `CopiedAlone`'s law at `channel_gain_numbers`, whose
+-- contract is all that is known of it.
 -- Assumes nothing.
 use Rattle.numbers.specs.Numbers.{GainsToldOf}
 use Rattle.muntinorris.proofs.CopiedAlone.{Asked, copied}

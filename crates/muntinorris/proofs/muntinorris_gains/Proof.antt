@@ -4,11 +4,8 @@ use borrow.Author.Needs.{needs}
 use Rattle.muntinorris.proofs.muntinorris_gains.Statement.{statement}
 use Rattle.muntinorris.proofs.muntinorris_gains.Tie as tie
 
-gain-numbers-requires : tie.Need-gain-numbers-requires
-gain-numbers-requires c κs = search needs
-
 returns : tie.Need-returns
 returns c = c .gain-numbers .ensures
 
 pub muntinorris-gains-spec : {M : Type 1} → statement M
-muntinorris-gains-spec = tie.close (tie.spec gain-numbers-requires returns)
+muntinorris-gains-spec = tie.close (tie.spec (λ c κs. search needs) returns)

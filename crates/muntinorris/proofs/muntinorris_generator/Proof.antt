@@ -1,4 +1,5 @@
--- `muntinorris::muntinorris_generator` meets its contract: `Copied`'s law at `generator_numbers`, whose contract is all that is known of it.
+-- `muntinorris::muntinorris_generator` meets its contract: `Copied`'s law at `generator_numbers`, whose contract is all
+-- that is known of it.
 -- Assumes nothing.
 use Rattle.queries.specs.Queries.{generatorQuery}
 use Rattle.numbers.specs.Numbers.{generatorNumbers}

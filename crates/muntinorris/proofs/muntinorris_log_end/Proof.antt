@@ -1,4 +1,5 @@
--- `muntinorris::muntinorris_log_end` meets its contract: `CopiedAlone`'s law at `arranging::end`, whose contract is all that is known of it.
+-- `muntinorris::muntinorris_log_end` meets its contract: `CopiedAlone`'s law at `arranging::end`, whose contract is all
+-- that is known of it.
 -- Assumes nothing.
 use mathlib.Core.Path.{_≡_}
 use Rattle.arranging.specs.Run.{finished}

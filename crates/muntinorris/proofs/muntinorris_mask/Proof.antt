@@ -1,4 +1,5 @@
--- `muntinorris::muntinorris_mask` meets its contract: `Copied`'s law at `mask_numbers`, whose contract is all that is known of it.
+-- `muntinorris::muntinorris_mask` meets its contract: `Copied`'s law at `mask_numbers`, whose contract is all that is
+-- known of it.
 -- Assumes nothing.
 use Rattle.queries.specs.Queries.{maskQuery}
 use Rattle.numbers.specs.Numbers.{maskNumbers}

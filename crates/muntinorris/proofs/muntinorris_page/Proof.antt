@@ -1,5 +1,6 @@
--- `muntinorris::muntinorris_page` meets its contract: a walk of its MIR, by hand. The record is copied as `LookedInto` says; the buffer is lent on for good, at its own lifetime, share and
--- name, to `page_number` with the copy, and comes back as that leaves it. All that the proof knows of `page_number` is that it meets its contract.
+-- `muntinorris::muntinorris_page` meets its contract: a walk of its MIR, by hand. The record is copied as `LookedInto`
+-- says; the buffer is lent on for good, at its own lifetime, share and name, to `page_number` with the copy, and comes
+-- back as that leaves it. All that the proof knows of `page_number` is that it meets its contract.
 -- Assumes nothing.
 use mathlib.Core.Path.{_≡_, refl}
 use Prim.Native.Nat.{ℕ}
@@ -109,7 +110,8 @@ module _ {M : Type 1} (𝓤 : URA M) (H : Heap 𝓤) (A : Atoms 𝓤) (W : Given
         pass1 ! (init ! 8 refl (tt, tt)) $ pass1 ! (init ! 6 refl (tt, (tt, (record { fits = room .0 }, tt)))) $ pass0 ! $
         -- [_5; …; _4; …; _3; …; _2; …; _1; …; room for _0; …; the tokens; what the parameters own]
         move ! (13 ∷ []) $ fsplit ! $ fsplit3 ! $ drop ! $ move ! (15 ∷ []) $ split ! $ move ! (3 ∷ 0 ∷ 13 ∷ 9 ∷ []) $ reads ! device b o h refl refl $
-        -- [what a Device owns; the token; the borrow; _1; _3; the buffer's token; res; what the buffer owns; _5; …; _4; …; …; _2; …; …; room for _0; …]
+        -- [what a Device owns; the token; the borrow; _1; _3; the buffer's token; res; what the buffer owns; _5; …; _4;
+        -- …; …; _2; …; …; room for _0; …]
         assigns ! (addr ! (from ! (fld ! refl (hop ! (look-in ! 13 (sub ! 0 refl (whole !))) (stop !))))) (from ! (stop !)) (init ! 10 refl (tt, tt)) $
         assigns ! (agg ! (and-then ! (load ! (from ! (stop !)) (look ! 10 refl)) (and-then ! (load ! (from ! (fld ! refl (stop !))) (look-in ! 13 (sub ! 1 refl (whole !)))) (no-more !)))) (from ! (stop !)) (init ! 8 refl (tt, (tt, (record { fits = room .0 }, tt)))) $
         move ! (7 ∷ []) $ fsplit ! $ move ! (7 ∷ 2 ∷ 0 ∷ []) $ use3 W (raw (Called 𝓤 H A at-mem run .pre to-called)) goes-called $
@@ -118,7 +120,8 @@ module _ {M : Type 1} (𝓤 : URA M) (H : Heap 𝓤) (A : Atoms 𝓤) (W : Given
         use1 W (later (some (λ (r : ℕ). ((‵ (flft κ′ q′) ⊛ ‵ ftrue) ⊛ ‵ (u8 .own r (w ∷ []))) ⊛ raw (ensured 𝓤 H A called.ended (called.clauses 𝓤 H A at-mem run) (κ′, tt) (h, (buffer, tt)) tt r)))) (id⊢ 𝓤 _) $ await ! tt $ pick ! (λ r.
         split ! $ move ! (1 ∷ []) $ use1 W (some (λ (zs : Unit {0} × (List ℕ × Unit {0})). ‵ (lasts called.ended (κ′, tt) (h, (buffer, tt)) zs) ⊛ raw (fact 𝓤 (Says h old r (zs .1 .0))))) (id⊢ 𝓤 _) $ pick ! (λ zs.
         split ! $ move ! (1 ∷ []) $ heard ! (Says h old r (zs .1 .0)) (λ e. fsplit ! $ drop ! $ fsplit ! $ fsplit ! $ move ! (1 ∷ []) $ feqL ! (λ l.
-        -- [the buffer's last bytes; true; its token and the result; true; the token; the borrow; _1; _3; res; _5; …; _4; …; …; _2; …; …; room for _0; …]
+        -- [the buffer's last bytes; true; its token and the result; true; the token; the borrow; _1; _3; res; _5; …;
+        -- _4; …; …; _2; …; …; room for _0; …]
         move ! (2 ∷ []) $ split ! $ move ! (1 ∷ []) $ peeks ! u8 (Is u8) (shows 𝓤 H A u8) r (w ∷ []) (λ is.
         land ! (from ! (stop !)) (init ! 18 refl (uint-lawful 𝓤 H A W w8 .typed r _ is .0)) $
         returns ! (look ! 18 refl) $ forget ! 7 refl $ forget ! 8 refl $ forget ! 10 refl $ forget ! 12 refl $ forget ! 15 refl $ forget ! 18 refl $

@@ -4,11 +4,8 @@ use borrow.Author.Needs.{needs}
 use Rattle.muntinorris.proofs.muntinorris_pitch.Statement.{statement}
 use Rattle.muntinorris.proofs.muntinorris_pitch.Tie as tie
 
-pitch-numbers-requires : tie.Need-pitch-numbers-requires
-pitch-numbers-requires c κs = search needs
-
 returns : tie.Need-returns
 returns c = c .pitch-numbers .ensures
 
 pub muntinorris-pitch-spec : {M : Type 1} → statement M
-muntinorris-pitch-spec = tie.close (tie.spec pitch-numbers-requires returns)
+muntinorris-pitch-spec = tie.close (tie.spec (λ c κs. search needs) returns)

@@ -1,4 +1,5 @@
--- `muntinorris::muntinorris_report` meets its contract: `PassedOn`'s law at `driver_reports::report`, whose contract is all that is known of it.
+-- `muntinorris::muntinorris_report` meets its contract: `PassedOn`'s law at `driver_reports::report`, whose contract is
+-- all that is known of it.
 -- Assumes nothing.
 use Rattle.events.specs.Events.{taken}
 use Rattle.events.specs.declared.Event.the-variants.{Report}

@@ -1,4 +1,5 @@
--- `muntinorris::muntinorris_share` meets its contract: `Copied`'s law at `share_numbers`, whose contract is all that is known of it.
+-- `muntinorris::muntinorris_share` meets its contract: `Copied`'s law at `share_numbers`, whose contract is all that is
+-- known of it.
 -- Assumes nothing.
 use Rattle.queries.specs.Queries.{shareQuery}
 use Rattle.numbers.specs.Numbers.{shareNumbers}

@@ -6,15 +6,6 @@ use Rattle.numbers.specs.Numbers.{songNumbers}
 use Rattle.muntinorris.proofs.muntinorris_write_song.Statement.{statement}
 use Rattle.muntinorris.proofs.muntinorris_write_song.Tie as tie
 
-write-song-requires : tie.Need-write-song-requires
-write-song-requires c κs = search needs
-
-song-numbers-requires : tie.Need-song-numbers-requires
-song-numbers-requires c κs = search needs
-
-same-length : tie.Need-same-length
-same-length c = search needs
-
 returns : tie.Need-returns
 returns c =
     let w = c .before .before .before .write-song in
@@ -22,4 +13,4 @@ returns c =
 
 pub muntinorris-write-song-spec : {M : Type 1} → statement M
 muntinorris-write-song-spec =
-    tie.close (tie.spec write-song-requires song-numbers-requires same-length returns)
+    tie.close (tie.spec (λ c κs. search needs) (λ c κs. search needs) (λ c. search needs) returns)

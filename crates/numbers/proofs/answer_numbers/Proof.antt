@@ -4,24 +4,6 @@ use borrow.Author.Needs.{needs}
 use Rattle.numbers.proofs.answer_numbers.Statement.{statement}
 use Rattle.numbers.proofs.answer_numbers.Tie as tie
 
-enum-told : tie.Need-enum-told
-enum-told c = search needs
-
-enum-told-2 : tie.Need-enum-told-2
-enum-told-2 c = search needs
-
-enum-known-a : tie.Need-enum-known-a
-enum-known-a c = search needs
-
-was-number-requires : tie.Need-was-number-requires
-was-number-requires c κs = search needs
-
-enum-known-a-2 : tie.Need-enum-known-a-2
-enum-known-a-2 c = search needs
-
-enum-known-a-3 : tie.Need-enum-known-a-3
-enum-known-a-3 c = search needs
-
 returns : tie.Need-returns
 returns c = simp (c .enum-told .given .1)
 
@@ -41,12 +23,12 @@ pub answer-numbers-spec : {M : Type 1} → statement M
 answer-numbers-spec =
     tie.close
     (tie.spec
-    enum-told
-    enum-told-2
-    enum-known-a
-    was-number-requires
-    enum-known-a-2
-    enum-known-a-3
+    (λ c. search needs)
+    (λ c. search needs)
+    (λ c. search needs)
+    (λ c κs. search needs)
+    (λ c. search needs)
+    (λ c. search needs)
     returns
     returns-2
     returns-3

@@ -19,15 +19,6 @@ given e v p a g h t = let s = subst (Answered e v p) h t in (ap orZero (s .0), s
 refused : (e v p : ℕ) (a : GainsAnswer) → a ≡ OutOfRange → Answered e v p a → GainsTold e v p (record { left = ofBits binary32 0; right = ofBits binary32 0; number = 24 })
 refused e v p a h t = let s = subst (Answered e v p) h t in (ap orZero (s .0), s .1)
 
-gains-of-requires : tie.Need-gains-of-requires
-gains-of-requires c κs = search needs
-
-enum-known-g : tie.Need-enum-known-g
-enum-known-g c = search needs
-
-enum-told : tie.Need-enum-told
-enum-told c = search needs
-
 returns : tie.Need-returns
 returns c =
     let b = c .before .before .before in
@@ -42,4 +33,4 @@ returns-2 c =
 
 pub gain-numbers-spec : {M : Type 1} → statement M
 gain-numbers-spec =
-    tie.close (tie.spec gains-of-requires enum-known-g enum-told returns returns-2)
+    tie.close (tie.spec (λ c κs. search needs) (λ c. search needs) (λ c. search needs) returns returns-2)

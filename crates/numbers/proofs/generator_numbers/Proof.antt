@@ -5,15 +5,6 @@ use borrow.Author.Needs.{needs}
 use Rattle.numbers.proofs.generator_numbers.Statement.{statement}
 use Rattle.numbers.proofs.generator_numbers.Tie as tie
 
-generator-query-requires : tie.Need-generator-query-requires
-generator-query-requires c κs = search needs
-
-enum-known-state : tie.Need-enum-known-state
-enum-known-state c = search needs
-
-enum-told : tie.Need-enum-told
-enum-told c = search needs
-
 returns : tie.Need-returns
 returns c = simp (sym (c .before .before .before .generator-query .ensures) ∙ c .before .state .given .1)
 
@@ -22,4 +13,4 @@ returns-2 c = simp (sym (c .before .before .generator-query .ensures) ∙ c .enu
 
 pub generator-numbers-spec : {M : Type 1} → statement M
 generator-numbers-spec =
-    tie.close (tie.spec generator-query-requires enum-known-state enum-told returns returns-2)
+    tie.close (tie.spec (λ c κs. search needs) (λ c. search needs) (λ c. search needs) returns returns-2)

@@ -5,18 +5,6 @@ use borrow.Author.Needs.{needs}
 use Rattle.numbers.proofs.mask_numbers.Statement.{statement}
 use Rattle.numbers.proofs.mask_numbers.Tie as tie
 
-mask-query-requires : tie.Need-mask-query-requires
-mask-query-requires c κs = search needs
-
-enum-told : tie.Need-enum-told
-enum-told c = search needs
-
-enum-told-2 : tie.Need-enum-told-2
-enum-told-2 c = search needs
-
-enum-told-3 : tie.Need-enum-told-3
-enum-told-3 c = search needs
-
 returns : tie.Need-returns
 returns c = simp (sym (c .before .before .mask-query .ensures) ∙ c .enum-told .given .1)
 
@@ -29,4 +17,4 @@ returns-3 c = simp (sym (c .before .before .mask-query .ensures) ∙ c .enum-tol
 pub mask-numbers-spec : {M : Type 1} → statement M
 mask-numbers-spec =
     tie.close
-    (tie.spec mask-query-requires enum-told enum-told-2 enum-told-3 returns returns-2 returns-3)
+    (tie.spec (λ c κs. search needs) (λ c. search needs) (λ c. search needs) (λ c. search needs) returns returns-2 returns-3)

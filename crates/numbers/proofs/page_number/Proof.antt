@@ -1,29 +1,15 @@
--- `numbers::page_number` meets its contract: the buffer is as `service::write_page` leaves it, and each of its answers has its number.
+-- `numbers::page_number` meets its contract: the buffer is as `service::write_page` leaves it, and each of its answers
+-- has its number.
 -- Assumes nothing.
 use mathlib.Core.Path.{sym, _∙_}
 use borrow.Author.Needs.{needs}
 use Rattle.numbers.proofs.page_number.Statement.{statement}
 use Rattle.numbers.proofs.page_number.Tie as tie
 
-write-page-requires : tie.Need-write-page-requires
-write-page-requires c κs = search needs
-
-enum-told : tie.Need-enum-told
-enum-told c = search needs
-
-enum-told-2 : tie.Need-enum-told-2
-enum-told-2 c = search needs
-
-same-length : tie.Need-same-length
-same-length c = search needs
-
 returns : tie.Need-returns
 returns c =
     let w = c .before .before .before .before .write-page in
     (simp (sym (w .ensures .0) ∙ c .enum-told .given .1), w .ensures .1)
-
-same-length-2 : tie.Need-same-length-2
-same-length-2 c = search needs
 
 returns-2 : tie.Need-returns-2
 returns-2 c =
@@ -34,10 +20,10 @@ pub page-number-spec : {M : Type 1} → statement M
 page-number-spec =
     tie.close
     (tie.spec
-    write-page-requires
-    enum-told
-    enum-told-2
-    same-length
+    (λ c κs. search needs)
+    (λ c. search needs)
+    (λ c. search needs)
+    (λ c. search needs)
     returns
-    same-length-2
+    (λ c. search needs)
     returns-2)

@@ -8,15 +8,6 @@ use borrow.Author.Needs.{needs}
 use Rattle.numbers.proofs.pitch_numbers.Statement.{statement}
 use Rattle.numbers.proofs.pitch_numbers.Tie as tie
 
-pitch-of-requires : tie.Need-pitch-of-requires
-pitch-of-requires c κs = search needs
-
-enum-known-p : tie.Need-enum-known-p
-enum-known-p c = search needs
-
-enum-told : tie.Need-enum-told
-enum-told c = search needs
-
 returns : tie.Need-returns
 returns c =
     let p = c .before .before .p .given .0 .0 in
@@ -29,4 +20,4 @@ returns-2 c = simp (sym (c .before .before .pitch-of .ensures) ∙ c .enum-told 
 
 pub pitch-numbers-spec : {M : Type 1} → statement M
 pitch-numbers-spec =
-    tie.close (tie.spec pitch-of-requires enum-known-p enum-told returns returns-2)
+    tie.close (tie.spec (λ c κs. search needs) (λ c. search needs) (λ c. search needs) returns returns-2)

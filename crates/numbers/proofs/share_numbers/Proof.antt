@@ -5,15 +5,6 @@ use borrow.Author.Needs.{needs}
 use Rattle.numbers.proofs.share_numbers.Statement.{statement}
 use Rattle.numbers.proofs.share_numbers.Tie as tie
 
-share-query-requires : tie.Need-share-query-requires
-share-query-requires c κs = search needs
-
-enum-known-share : tie.Need-enum-known-share
-enum-known-share c = search needs
-
-enum-told : tie.Need-enum-told
-enum-told c = search needs
-
 returns : tie.Need-returns
 returns c = simp (sym (c .before .before .before .share-query .ensures) ∙ c .before .share .given .1)
 
@@ -22,4 +13,4 @@ returns-2 c = simp (sym (c .before .before .share-query .ensures) ∙ c .enum-to
 
 pub share-numbers-spec : {M : Type 1} → statement M
 share-numbers-spec =
-    tie.close (tie.spec share-query-requires enum-known-share enum-told returns returns-2)
+    tie.close (tie.spec (λ c κs. search needs) (λ c. search needs) (λ c. search needs) returns returns-2)

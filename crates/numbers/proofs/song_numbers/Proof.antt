@@ -4,21 +4,6 @@ use borrow.Author.Needs.{needs}
 use Rattle.numbers.proofs.song_numbers.Statement.{statement}
 use Rattle.numbers.proofs.song_numbers.Tie as tie
 
-enum-known-a : tie.Need-enum-known-a
-enum-known-a c = search needs
-
-enum-told : tie.Need-enum-told
-enum-told c = search needs
-
-refused-song-requires : tie.Need-refused-song-requires
-refused-song-requires c κs = search needs
-
-enum-told-2 : tie.Need-enum-told-2
-enum-told-2 c = search needs
-
-refused-song-requires-2 : tie.Need-refused-song-requires-2
-refused-song-requires-2 c κs = search needs
-
 returns : tie.Need-returns
 returns c = simp (c .before .a .given .1)
 
@@ -32,11 +17,11 @@ pub song-numbers-spec : {M : Type 1} → statement M
 song-numbers-spec =
     tie.close
     (tie.spec
-    enum-known-a
-    enum-told
-    refused-song-requires
-    enum-told-2
-    refused-song-requires-2
+    (λ c. search needs)
+    (λ c. search needs)
+    (λ c κs. search needs)
+    (λ c. search needs)
+    (λ c κs. search needs)
     returns
     returns-2
     returns-3)

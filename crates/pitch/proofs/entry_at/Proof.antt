@@ -8,153 +8,6 @@ use Rattle.pitch.proofs.Roots.{entry-in}
 use Rattle.pitch.proofs.entry_at.Statement.{statement}
 use Rattle.pitch.proofs.entry_at.Tie as tie
 
-cast-at : tie.Need-cast-at
-cast-at c = search needs
-
-mul-result : tie.Need-mul-result
-mul-result c = search needs
-
-array-read-result : tie.Need-array-read-result
-array-read-result c = search needs
-
-mul-result-2 : tie.Need-mul-result-2
-mul-result-2 c = search needs
-
-array-read-result-2 : tie.Need-array-read-result-2
-array-read-result-2 c = search needs
-
-mul-result-3 : tie.Need-mul-result-3
-mul-result-3 c = search needs
-
-array-read-result-3 : tie.Need-array-read-result-3
-array-read-result-3 c = search needs
-
-mul-result-4 : tie.Need-mul-result-4
-mul-result-4 c = search needs
-
-array-read-result-4 : tie.Need-array-read-result-4
-array-read-result-4 c = search needs
-
-mul-result-5 : tie.Need-mul-result-5
-mul-result-5 c = search needs
-
-array-read-result-5 : tie.Need-array-read-result-5
-array-read-result-5 c = search needs
-
-mul-result-6 : tie.Need-mul-result-6
-mul-result-6 c = search needs
-
-array-read-result-6 : tie.Need-array-read-result-6
-array-read-result-6 c = search needs
-
-mul-result-7 : tie.Need-mul-result-7
-mul-result-7 c = search needs
-
-array-read-result-7 : tie.Need-array-read-result-7
-array-read-result-7 c = search needs
-
-mul-result-8 : tie.Need-mul-result-8
-mul-result-8 c = search needs
-
-array-read-result-8 : tie.Need-array-read-result-8
-array-read-result-8 c = search needs
-
-mul-result-9 : tie.Need-mul-result-9
-mul-result-9 c = search needs
-
-array-read-result-9 : tie.Need-array-read-result-9
-array-read-result-9 c = search needs
-
-mul-result-10 : tie.Need-mul-result-10
-mul-result-10 c = search needs
-
-array-read-result-10 : tie.Need-array-read-result-10
-array-read-result-10 c = search needs
-
-mul-result-11 : tie.Need-mul-result-11
-mul-result-11 c = search needs
-
-array-read-result-11 : tie.Need-array-read-result-11
-array-read-result-11 c = search needs
-
-mul-result-12 : tie.Need-mul-result-12
-mul-result-12 c = search needs
-
-array-read-result-12 : tie.Need-array-read-result-12
-array-read-result-12 c = search needs
-
-mul-result-13 : tie.Need-mul-result-13
-mul-result-13 c = search needs
-
-array-read-result-13 : tie.Need-array-read-result-13
-array-read-result-13 c = search needs
-
-mul-result-14 : tie.Need-mul-result-14
-mul-result-14 c = search needs
-
-array-read-result-14 : tie.Need-array-read-result-14
-array-read-result-14 c = search needs
-
-mul-result-15 : tie.Need-mul-result-15
-mul-result-15 c = search needs
-
-array-read-result-15 : tie.Need-array-read-result-15
-array-read-result-15 c = search needs
-
-mul-result-16 : tie.Need-mul-result-16
-mul-result-16 c = search needs
-
-array-read-result-16 : tie.Need-array-read-result-16
-array-read-result-16 c = search needs
-
-mul-result-17 : tie.Need-mul-result-17
-mul-result-17 c = search needs
-
-array-read-result-17 : tie.Need-array-read-result-17
-array-read-result-17 c = search needs
-
-mul-result-18 : tie.Need-mul-result-18
-mul-result-18 c = search needs
-
-array-read-result-18 : tie.Need-array-read-result-18
-array-read-result-18 c = search needs
-
-mul-result-19 : tie.Need-mul-result-19
-mul-result-19 c = search needs
-
-array-read-result-19 : tie.Need-array-read-result-19
-array-read-result-19 c = search needs
-
-mul-result-20 : tie.Need-mul-result-20
-mul-result-20 c = search needs
-
-array-read-result-20 : tie.Need-array-read-result-20
-array-read-result-20 c = search needs
-
-mul-result-21 : tie.Need-mul-result-21
-mul-result-21 c = search needs
-
-array-read-result-21 : tie.Need-array-read-result-21
-array-read-result-21 c = search needs
-
-mul-result-22 : tie.Need-mul-result-22
-mul-result-22 c = search needs
-
-array-read-result-22 : tie.Need-array-read-result-22
-array-read-result-22 c = search needs
-
-mul-result-23 : tie.Need-mul-result-23
-mul-result-23 c = search needs
-
-array-read-result-23 : tie.Need-array-read-result-23
-array-read-result-23 c = search needs
-
-mul-result-24 : tie.Need-mul-result-24
-mul-result-24 c = search needs
-
-array-read-result-24 : tie.Need-array-read-result-24
-array-read-result-24 c = search needs
-
 returns : tie.Need-returns
 returns c = sym (entry-in (c .before .args .i) 0 (search needs) (c .match .keys1))
 
@@ -262,55 +115,55 @@ pub entry-at-spec : {M : Type 1} → statement M
 entry-at-spec =
     tie.close
     (tie.spec
-    cast-at
-    mul-result
-    array-read-result
-    mul-result-2
-    array-read-result-2
-    mul-result-3
-    array-read-result-3
-    mul-result-4
-    array-read-result-4
-    mul-result-5
-    array-read-result-5
-    mul-result-6
-    array-read-result-6
-    mul-result-7
-    array-read-result-7
-    mul-result-8
-    array-read-result-8
-    mul-result-9
-    array-read-result-9
-    mul-result-10
-    array-read-result-10
-    mul-result-11
-    array-read-result-11
-    mul-result-12
-    array-read-result-12
-    mul-result-13
-    array-read-result-13
-    mul-result-14
-    array-read-result-14
-    mul-result-15
-    array-read-result-15
-    mul-result-16
-    array-read-result-16
-    mul-result-17
-    array-read-result-17
-    mul-result-18
-    array-read-result-18
-    mul-result-19
-    array-read-result-19
-    mul-result-20
-    array-read-result-20
-    mul-result-21
-    array-read-result-21
-    mul-result-22
-    array-read-result-22
-    mul-result-23
-    array-read-result-23
-    mul-result-24
-    array-read-result-24
+    (λ c. search needs)
+    (λ c. search needs)
+    (λ c. search needs)
+    (λ c. search needs)
+    (λ c. search needs)
+    (λ c. search needs)
+    (λ c. search needs)
+    (λ c. search needs)
+    (λ c. search needs)
+    (λ c. search needs)
+    (λ c. search needs)
+    (λ c. search needs)
+    (λ c. search needs)
+    (λ c. search needs)
+    (λ c. search needs)
+    (λ c. search needs)
+    (λ c. search needs)
+    (λ c. search needs)
+    (λ c. search needs)
+    (λ c. search needs)
+    (λ c. search needs)
+    (λ c. search needs)
+    (λ c. search needs)
+    (λ c. search needs)
+    (λ c. search needs)
+    (λ c. search needs)
+    (λ c. search needs)
+    (λ c. search needs)
+    (λ c. search needs)
+    (λ c. search needs)
+    (λ c. search needs)
+    (λ c. search needs)
+    (λ c. search needs)
+    (λ c. search needs)
+    (λ c. search needs)
+    (λ c. search needs)
+    (λ c. search needs)
+    (λ c. search needs)
+    (λ c. search needs)
+    (λ c. search needs)
+    (λ c. search needs)
+    (λ c. search needs)
+    (λ c. search needs)
+    (λ c. search needs)
+    (λ c. search needs)
+    (λ c. search needs)
+    (λ c. search needs)
+    (λ c. search needs)
+    (λ c. search needs)
     returns
     returns-2
     returns-3

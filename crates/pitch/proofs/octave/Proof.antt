@@ -18,12 +18,6 @@ returns c = rw (c .if1 .taken)
 returns-2 : tie.Need-returns-2
 returns-2 c = rw (c .if2 .taken)
 
-sub-result : tie.Need-sub-result
-sub-result c = search needs
-
-cast-result : tie.Need-cast-result
-cast-result c = search needs
-
 returns-3 : tie.Need-returns-3
 returns-3 c =
     let n = c .before .before .args .n in
@@ -31,4 +25,4 @@ returns-3 c =
     rw (lt-ltb (n / 192 - 2) 128 h) (from-two (n / 192) (omega arith))
 
 pub octave-spec : {M : Type 1} → statement M
-octave-spec = tie.close (tie.spec returns returns-2 sub-result cast-result returns-3)
+octave-spec = tie.close (tie.spec returns returns-2 (λ c. search needs) (λ c. search needs) returns-3)

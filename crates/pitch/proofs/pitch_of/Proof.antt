@@ -1,4 +1,5 @@
--- `pitch::pitch_of` meets its contract: the three tests one after the other, then octave and remainder of the raised position (`Floor`).
+-- `pitch::pitch_of` meets its contract: the three tests one after the other, then octave and remainder of the raised
+-- position (`Floor`).
 -- Assumes nothing.
 use mathlib.Core.Path.{_≡_, refl}
 use mathlib.Core.Bool.{Bool, true, false, cond}
@@ -43,15 +44,6 @@ returns-3 : tie.Need-returns-3
 unfolding pitchOf
 returns-3 c = simp (le-ltb _ _ (c .before .before .if1 .left), le-ltb _ _ (c .before .if2 .left), lt-ltb _ _ (c .if3 .taken))
 
-raised-requires : tie.Need-raised-requires
-raised-requires c κs = search needs
-
-octave-requires : tie.Need-octave-requires
-octave-requires c κs = search needs
-
-entry-at-requires : tie.Need-entry-at-requires
-entry-at-requires c κs = search needs
-
 returns-4 : tie.Need-returns-4
 unfolding pitchOf
 returns-4 c =
@@ -67,7 +59,7 @@ pitch-of-spec =
     returns
     returns-2
     returns-3
-    raised-requires
-    octave-requires
-    entry-at-requires
+    (λ c κs. search needs)
+    (λ c κs. search needs)
+    (λ c κs. search needs)
     returns-4)

@@ -13,18 +13,6 @@ use Rattle.pitch.proofs.raised.Tie as tie
 few : (q b : ℕ) → q ≤ 384 → b < 16384 → q * b ≤ 384 * 16383
 few q b h k = mul-le-mul {n₁ = q} {m₁ = b} {n₂ = 384} {m₂ = 16383} h (omega arith)
 
-mul-range : tie.Need-mul-range
-mul-range c = search needs
-
-mul-result : tie.Need-mul-result
-mul-result c = search needs
-
-add-result : tie.Need-add-result
-add-result c = search needs
-
-sub-result : tie.Need-sub-result
-sub-result c = search needs
-
 mul-result-2 : tie.Need-mul-result-2
 mul-result-2 c =
     let k = few (16 * c .args .sensitivity) (c .args .bend) (search needs) (search needs) in
@@ -41,4 +29,4 @@ returns c =
 pub raised-spec : {M : Type 1} → statement M
 raised-spec =
     tie.close
-    (tie.spec mul-range mul-result add-result sub-result mul-result-2 add-result-2 returns)
+    (tie.spec (λ c. search needs) (λ c. search needs) (λ c. search needs) (λ c. search needs) mul-result-2 add-result-2 returns)

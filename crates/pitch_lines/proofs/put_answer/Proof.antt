@@ -1,4 +1,5 @@
--- `pitch_lines::put_answer`: a line that is a call is answered as its numbers are, cut where they are larger than the call takes (`Refused`).
+-- `pitch_lines::put_answer`: a line that is a call is answered as its numbers are, cut where they are larger than the
+-- call takes (`Refused`).
 -- Assumes nothing.
 use Prim.Native.Nat.{ℕ}
 use mathlib.Core.Path.{_≡_, sym, _∙_}

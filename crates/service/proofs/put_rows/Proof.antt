@@ -1,4 +1,5 @@
--- `service::put_rows` meets its contract. Invariant: the lines of channels 1 to n stand behind the head, and the rest of the page is as it was.
+-- `service::put_rows` meets its contract. Invariant: the lines of channels 1 to n stand behind the head, and the rest
+-- of the page is as it was.
 -- Assumes nothing.
 use Prim.Native.Nat.{_-_, _≤_}
 use mathlib.Core.Path.{_≡_}

@@ -1,5 +1,5 @@
--- `service::standing_of` meets its contract. Invariant: the place and value that the channel finds in the entries from k on, the first of which has place k + 1,
--- are those that it finds in all of them.
+-- `service::standing_of` meets its contract. Invariant: the place and value that the channel finds in the entries from
+-- k on, the first of which has place k + 1, are those that it finds in all of them.
 -- Assumes nothing.
 use Prim.Native.Nat.{_+_, _≤_, _-_}
 use mathlib.Core.Path.{_≡_, refl, ap, _∙_}

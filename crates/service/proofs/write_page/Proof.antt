@@ -1,4 +1,5 @@
--- `service::write_page` meets its contract: where there is room the head and the lines stand in the buffer, and the rest is as it was.
+-- `service::write_page` meets its contract: where there is room the head and the lines stand in the buffer, and the
+-- rest is as it was.
 -- Assumes nothing.
 use borrow.Author.Needs.{needs}
 use Rattle.service.specs.Page.{head}

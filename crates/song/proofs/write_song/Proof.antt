@@ -1,4 +1,5 @@
--- `song::write_song` meets its contract: number 1 before number 25, and a loop whose invariant is `Turn`. The measure is what is left of the song.
+-- `song::write_song` meets its contract: number 1 before number 25, and a loop whose invariant is `Turn`. The measure
+-- is what is left of the song.
 -- Assumes nothing.
 use mathlib.Core.Path.{sym, _∙_}
 use Prim.Native.Nat.{_-_}

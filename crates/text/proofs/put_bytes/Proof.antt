@@ -21,21 +21,6 @@ loop-holds : tie.Need-loop-holds Inv-loop μ-loop
 unfolding hexadecimals
 loop-holds c = (omega arith, refl, nothing-put _ _)
 
-put-blank-requires : tie.Need-put-blank-requires Inv-loop μ-loop
-put-blank-requires c κs = search needs
-
-shared-slice-read-put-hex : tie.Need-shared-slice-read-put-hex Inv-loop μ-loop
-shared-slice-read-put-hex c = search needs
-
-put-hex-requires : tie.Need-put-hex-requires Inv-loop μ-loop
-put-hex-requires c κs = search needs
-
-add-i : tie.Need-add-i Inv-loop μ-loop
-add-i c = search needs
-
-loop-less : tie.Need-loop-less Inv-loop μ-loop
-loop-less c = search needs
-
 loop-again : tie.Need-loop-again Inv-loop μ-loop
 loop-again c =
     let h = c .before .before .put-hex in
@@ -57,11 +42,11 @@ put-bytes-spec =
     Inv-loop
     μ-loop
     loop-holds
-    put-blank-requires
-    shared-slice-read-put-hex
-    put-hex-requires
-    add-i
-    loop-less
+    (λ c κs. search needs)
+    (λ c. search needs)
+    (λ c κs. search needs)
+    (λ c. search needs)
+    (λ c. search needs)
     loop-again
     same-length
     returns)

@@ -6,9 +6,6 @@ use borrow.Author.Needs.{needs}
 use Rattle.splitter.proofs.Parser.after.Statement.{statement}
 use Rattle.splitter.proofs.Parser.after.Tie as tie
 
-after-data-requires : tie.Need-after-data-requires
-after-data-requires c κs = search needs
-
 returns : tie.Need-returns
 unfolding split
 returns c = simp (lt-ltb _ _ (c .before .if1 .taken), c .after-data .ensures)
@@ -16,12 +13,6 @@ returns c = simp (lt-ltb _ _ (c .before .if1 .taken), c .after-data .ensures)
 returns-2 : tie.Need-returns-2
 unfolding split statusByte
 returns-2 c = simp (le-ltb _ _ (c .before .if1 .left), le-leb _ _ (c .if2 .taken))
-
-if-else-requires : tie.Need-if-else-requires
-if-else-requires c κs = search needs
-
-begin-requires : tie.Need-begin-requires
-begin-requires c κs = search needs
 
 returns-3 : tie.Need-returns-3
 unfolding split statusByte opened
@@ -32,4 +23,4 @@ returns-3 c =
 pub after-spec : {M : Type 1} → statement M
 after-spec =
     tie.close
-    (tie.spec after-data-requires returns returns-2 if-else-requires begin-requires returns-3)
+    (tie.spec (λ c κs. search needs) returns returns-2 (λ c κs. search needs) (λ c κs. search needs) returns-3)

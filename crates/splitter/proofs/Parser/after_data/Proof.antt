@@ -25,23 +25,11 @@ returns : tie.Need-returns
 unfolding dataByte
 returns c = simp (lt-ltb _ _ (c .if1 .taken))
 
-at-last-requires : tie.Need-at-last-requires
-at-last-requires c κs = search needs
-
-if-else-requires : tie.Need-if-else-requires
-if-else-requires c κs = search needs
-
-begin-requires : tie.Need-begin-requires
-begin-requires c κs = search needs
-
 returns-2 : tie.Need-returns-2
 unfolding dataByte
 returns-2 c =
     let b = c .before .before .before .before in
     simp (le-ltb _ _ (b .before .if1 .left), sym (b .at-last .ensures) ∙ c .before .before .before .if2 .taken, c .begin .ensures, c .before .if-else .ensures) (begun-anew _ _)
-
-store-requires : tie.Need-store-requires
-store-requires c κs = search needs
 
 returns-3 : tie.Need-returns-3
 unfolding dataByte
@@ -54,9 +42,9 @@ after-data-spec =
     tie.close
     (tie.spec
     returns
-    at-last-requires
-    if-else-requires
-    begin-requires
+    (λ c κs. search needs)
+    (λ c κs. search needs)
+    (λ c κs. search needs)
     returns-2
-    store-requires
+    (λ c κs. search needs)
     returns-3)

@@ -6,15 +6,9 @@ use borrow.Author.Needs.{needs}
 use Rattle.splitter.proofs.Parser.completes.Statement.{statement}
 use Rattle.splitter.proofs.Parser.completes.Tie as tie
 
-data-completes-requires : tie.Need-data-completes-requires
-data-completes-requires c κs = search needs
-
 returns : tie.Need-returns
 unfolding split
 returns c = simp (lt-ltb _ _ (c .before .if1 .taken), c .data-completes .ensures)
-
-ended-requires : tie.Need-ended-requires
-ended-requires c κs = search needs
 
 returns-2 : tie.Need-returns-2
 unfolding split statusByte
@@ -27,4 +21,4 @@ returns-3 c = simp (le-ltb _ _ (c .before .if1 .left), le-leb _ _ (c .if2 .left)
 
 pub completes-spec : {M : Type 1} → statement M
 completes-spec =
-    tie.close (tie.spec data-completes-requires returns ended-requires returns-2 returns-3)
+    tie.close (tie.spec (λ c κs. search needs) returns (λ c κs. search needs) returns-2 returns-3)

@@ -11,12 +11,6 @@ returns : tie.Need-returns
 unfolding dataByte
 returns c = simp (lt-ltb _ _ (c .if1 .taken))
 
-at-last-requires : tie.Need-at-last-requires
-at-last-requires c κs = search needs
-
-message-requires : tie.Need-message-requires
-message-requires c κs = search needs
-
 returns-2 : tie.Need-returns-2
 unfolding dataByte
 returns-2 c =
@@ -29,4 +23,4 @@ returns-3 c = simp (le-ltb _ _ (c .before .before .if1 .left), sym (c .before .a
 
 pub data-completes-spec : {M : Type 1} → statement M
 data-completes-spec =
-    tie.close (tie.spec returns at-last-requires message-requires returns-2 returns-3)
+    tie.close (tie.spec returns (λ c κs. search needs) (λ c κs. search needs) returns-2 returns-3)

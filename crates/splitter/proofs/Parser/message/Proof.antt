@@ -1,4 +1,5 @@
--- `splitter::Parser::message` meets its contract: the branch's test is the definition's, and so is the message, of one data byte or of two.
+-- `splitter::Parser::message` meets its contract: the branch's test is the definition's, and so is the message, of one
+-- data byte or of two.
 -- Assumes nothing.
 use borrow.Author.Tests.{le-leb, lt-leb}
 use Rattle.splitter.specs.Split.{completed}
@@ -9,18 +10,6 @@ use Rattle.splitter.proofs.Parser.message.Tie as tie
 returns : tie.Need-returns
 unfolding completed
 returns c = simp (le-leb _ _ (c .if1 .taken))
-
-one-data-byte-requires : tie.Need-one-data-byte-requires
-one-data-byte-requires c κs = search needs
-
-array-read-if-else : tie.Need-array-read-if-else
-array-read-if-else c = search needs
-
-if-else-requires : tie.Need-if-else-requires
-if-else-requires c κs = search needs
-
-if-else-requires-2 : tie.Need-if-else-requires-2
-if-else-requires-2 c κs = search needs
 
 returns-2 : tie.Need-returns-2
 unfolding completed
@@ -33,8 +22,8 @@ message-spec =
     tie.close
     (tie.spec
     returns
-    one-data-byte-requires
-    array-read-if-else
-    if-else-requires
-    if-else-requires-2
+    (λ c κs. search needs)
+    (λ c. search needs)
+    (λ c κs. search needs)
+    (λ c κs. search needs)
     returns-2)

@@ -4,11 +4,8 @@ use borrow.Author.Needs.{needs}
 use Rattle.splitter.proofs.Parser.new.Statement.{statement}
 use Rattle.splitter.proofs.Parser.new.Tie as tie
 
-begin-requires : tie.Need-begin-requires
-begin-requires c κs = search needs
-
 returns : tie.Need-returns
 returns c = c .begin .ensures
 
 pub new-spec : {M : Type 1} → statement M
-new-spec = tie.close (tie.spec begin-requires returns)
+new-spec = tie.close (tie.spec (λ c κs. search needs) returns)

@@ -4,14 +4,8 @@ use borrow.Author.Needs.{needs}
 use Rattle.splitter.proofs.Parser.split.Statement.{statement}
 use Rattle.splitter.proofs.Parser.split.Tie as tie
 
-after-requires : tie.Need-after-requires
-after-requires c κs = search needs
-
-completes-requires : tie.Need-completes-requires
-completes-requires c κs = search needs
-
 returns : tie.Need-returns
 returns c = simp (c .completes .ensures, c .before .after .ensures)
 
 pub split-spec : {M : Type 1} → statement M
-split-spec = tie.close (tie.spec after-requires completes-requires returns)
+split-spec = tie.close (tie.spec (λ c κs. search needs) (λ c κs. search needs) returns)

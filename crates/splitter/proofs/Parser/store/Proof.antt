@@ -1,4 +1,5 @@
--- `splitter::Parser::store` meets its contract: below 37 the byte goes to the place of the count, from 37 on nothing changes.
+-- `splitter::Parser::store` meets its contract: below 37 the byte goes to the place of the count, from 37 on nothing
+-- changes.
 -- Assumes nothing.
 use borrow.Author.Tests.{lt-ltb, le-ltb}
 use Rattle.splitter.specs.Split.{stored}
@@ -10,18 +11,9 @@ returns : tie.Need-returns
 unfolding stored
 returns c = simp (le-ltb _ _ (c .if1 .taken))
 
-cast-bytes : tie.Need-cast-bytes
-cast-bytes c = search needs
-
-array-write-bytes : tie.Need-array-write-bytes
-array-write-bytes c = search needs
-
-add-t9 : tie.Need-add-t9
-add-t9 c = search needs
-
 returns-2 : tie.Need-returns-2
 unfolding stored
 returns-2 c = simp (lt-ltb _ _ (c .before .if1 .left))
 
 pub store-spec : {M : Type 1} → statement M
-store-spec = tie.close (tie.spec returns cast-bytes array-write-bytes add-t9 returns-2)
+store-spec = tie.close (tie.spec returns (λ c. search needs) (λ c. search needs) (λ c. search needs) returns-2)

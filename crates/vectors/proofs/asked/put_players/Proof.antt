@@ -1,12 +1,12 @@
--- `vectors::put_players` goes through the 64 numbers of generators; the page keeps its length.
+-- `vectors::asked::put_players` goes through the 64 numbers of generators; the page keeps its length.
 -- Assumes nothing.
 use Prim.Native.Nat.{_≤_, _-_}
 use mathlib.Core.Path.{_≡_, refl, _∙_}
 use native.Mathlib.Omega.{arith}
 use lib.ListN.{length}
 use borrow.Author.Needs.{needs}
-use Rattle.vectors.proofs.put_players.Statement.{statement}
-use Rattle.vectors.proofs.put_players.Tie as tie
+use Rattle.vectors.proofs.asked.put_players.Statement.{statement}
+use Rattle.vectors.proofs.asked.put_players.Tie as tie
 
 abbrev Inv-loop : tie.InvT-loop
 Inv-loop page₀ at d k₀ g₀ page k g = (g ≤ 64) × (length page ≡ length page₀)
@@ -17,26 +17,11 @@ abbrev μ-loop : tie.MeasureT-loop
 loop-holds : tie.Need-loop-holds Inv-loop μ-loop
 loop-holds c = (omega arith, refl)
 
-generator-query-requires : tie.Need-generator-query-requires Inv-loop μ-loop
-generator-query-requires c κs = search needs
-
-put-player-requires : tie.Need-put-player-requires Inv-loop μ-loop
-put-player-requires c κs = search needs
-
-add-g : tie.Need-add-g Inv-loop μ-loop
-add-g c = search needs
-
-loop-less : tie.Need-loop-less Inv-loop μ-loop
-loop-less c = search needs
-
 loop-again : tie.Need-loop-again Inv-loop μ-loop
 loop-again c = (omega arith, c .before .before .put-player .kept .0 ∙ c .before .before .before .before .before .before .loop .inv .1)
 
 same-length : tie.Need-same-length Inv-loop μ-loop
 same-length c = c .before .loop .inv .1
-
-returns : tie.Need-returns Inv-loop μ-loop
-returns c = search needs
 
 pub put-players-spec : {M : Type 1} → statement M
 put-players-spec =
@@ -45,10 +30,10 @@ put-players-spec =
     Inv-loop
     μ-loop
     loop-holds
-    generator-query-requires
-    put-player-requires
-    add-g
-    loop-less
+    (λ c κs. search needs)
+    (λ c κs. search needs)
+    (λ c. search needs)
+    (λ c. search needs)
     loop-again
     same-length
-    returns)
+    (λ c. search needs))

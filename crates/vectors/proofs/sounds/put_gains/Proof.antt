@@ -1,4 +1,4 @@
--- `vectors::put_gains`: both gains are numbers, so that their bits can be read.
+-- `vectors::sounds::put_gains`: both gains are numbers, so that their bits can be read.
 -- Assumes nothing.
 use mathlib.Core.Path.{_≡_, subst}
 use mathlib.Core.Bool.{not}
@@ -9,17 +9,14 @@ use Rattle.gains.specs.declared.Gains.{Gains}
 use Rattle.gains.specs.declared.GainsAnswer.{GainsAnswer}
 use Rattle.gains.specs.declared.GainsAnswer.the-variants.{GainsAre}
 use Rattle.gains.specs.Gains.{gainsIn}
-use Rattle.vectors.proofs.put_gains.Statement.{statement}
-use Rattle.vectors.proofs.put_gains.Tie as tie
+use Rattle.vectors.proofs.sounds.put_gains.Statement.{statement}
+use Rattle.vectors.proofs.sounds.put_gains.Tie as tie
 
 abbrev Numbers : GainsAnswer → Type 0
 Numbers a = T (not (isNan (gainsIn a .left))) × T (not (isNan (gainsIn a .right)))
 
 of-gains : (a : GainsAnswer) (g : Gains) → a ≡ GainsAre g → Numbers a → T (not (isNan (g .left))) × T (not (isNan (g .right)))
 of-gains a g h n = subst Numbers h n
-
-enum-known-a : tie.Need-enum-known-a
-enum-known-a c = search needs
 
 float-to-bits-put-both : tie.Need-float-to-bits-put-both
 float-to-bits-put-both c =
@@ -33,38 +30,17 @@ float-to-bits-put-both-2 c =
     let s = b .before .before .before in
     of-gains (s .args .a) (b .a .given .0 .0) (b .a .given .1) (s .pre) .1
 
-put-both-requires : tie.Need-put-both-requires
-put-both-requires c κs = search needs
-
-enum-told : tie.Need-enum-told
-enum-told c = search needs
-
-put-refused-requires : tie.Need-put-refused-requires
-put-refused-requires c κs = search needs
-
-same-length : tie.Need-same-length
-same-length c = search needs
-
-returns : tie.Need-returns
-returns c = search needs
-
-same-length-2 : tie.Need-same-length-2
-same-length-2 c = search needs
-
-returns-2 : tie.Need-returns-2
-returns-2 c = search needs
-
 pub put-gains-spec : {M : Type 1} → statement M
 put-gains-spec =
     tie.close
     (tie.spec
-    enum-known-a
+    (λ c. search needs)
     float-to-bits-put-both
     float-to-bits-put-both-2
-    put-both-requires
-    enum-told
-    put-refused-requires
-    same-length
-    returns
-    same-length-2
-    returns-2)
+    (λ c κs. search needs)
+    (λ c. search needs)
+    (λ c κs. search needs)
+    (λ c. search needs)
+    (λ c. search needs)
+    (λ c. search needs)
+    (λ c. search needs))

@@ -1,0 +1,27 @@
+-- `vectors::pages::put_service_lent`: as many bytes are lent as are asked for.
+-- Assumes nothing.
+use mathlib.Core.Path.{sym}
+use native.Mathlib.Omega.{arith}
+use lib.Seq.{length-take-le}
+use borrow.Author.Needs.{needs}
+use Rattle.vectors.proofs.pages.put_service_lent.Statement.{statement}
+use Rattle.vectors.proofs.pages.put_service_lent.Tie as tie
+
+slice-aggregate-put-service : tie.Need-slice-aggregate-put-service
+slice-aggregate-put-service c =
+    let h = c .before .before .if1 .left in
+    sym (length-take-le _ _ (omega arith))
+
+pub put-service-lent-spec : {M : Type 1} → statement M
+put-service-lent-spec =
+    tie.close
+    (tie.spec
+    (λ c κs. search needs)
+    (λ c. search needs)
+    (λ c. search needs)
+    (λ c. search needs)
+    slice-aggregate-put-service
+    (λ c κs. search needs)
+    (λ c. search needs)
+    (λ c. search needs)
+    (λ c. search needs))
