@@ -1,4 +1,4 @@
--- Document 01, "The device record": "A generator is older than another if its assignment came earlier, in a history of any length."
+-- R1.6: the older of two sounding generators was assigned earlier, in a history of any length.
 use Prim.Native.Nat.{ℕ, _<_}
 use mathlib.Core.Path.{_≡_}
 use mathlib.Core.List.{List, [], _∷_, _++_}

@@ -1,4 +1,4 @@
--- Document 01, "Note-on, velocity above 0": steps 1 to 5, and the assignment.
+-- A note-on with a velocity above 0: steps 1 to 5, and the assignment.
 use Prim.Native.Nat.{ℕ}
 use mathlib.Core.Bool.{Bool, true, false}
 use Rattle.loops.specs.Cases.{if_then_else_}
@@ -21,11 +21,11 @@ use Rattle.allocation.specs.declared.Taken.{Taken}
 use Rattle.allocation.specs.declared.Taken.the-variants.{Took, Refused}
 use Rattle.allocation.specs.declared.Allocated.{Allocated}
 
--- steps 2 and 3: what the new note ends
+-- R5.2, R5.3: steps 2 and 3, what the new note ends
 unfoldable pub cleared : Bool → ℕ → ℕ → Generators → Generators
 cleared rhythm c k s = if rhythm then silenced (Group c k) (changed (ReleaseNote c k) s) else changed (ReleaseNote c k) s
 
--- a theft: "what the generator was: idle, release or stolen"
+-- R4.11: of what a generator was, a theft
 abbrev pub isStolen : Was → Bool
 isStolen Idle = false
 isStolen Release = false
@@ -36,7 +36,8 @@ abbrev pub orElse : Found → Was → Taken → Taken
 orElse (At g) w t = Took g w
 orElse Nothing w t = t
 
--- step 4: "Take the idle generator of lowest number; else the oldest releasing one"; else step 5: one is stolen; "If it has none, number 11"
+-- R5.5, R5.6: step 4, the lowest idle one, else the oldest releasing one; R5.9: else step 5 steals; R5.10, R8.11:
+-- else number 11
 unfoldable pub choice : Generators → Table → ℕ → ℕ → Taken
 choice s t p c =
     orElse (lowestIdle s p) Idle
@@ -44,12 +45,12 @@ choice s t p c =
     (orElse (victim s t p c) Stolen
     (Refused 11)))
 
--- "The note is then held and is the newest"; a refused note-on leaves everything as it was
+-- R5.11: the note is held and the newest; R5.10: a refused note-on leaves everything as it was
 abbrev pub allocated : Generators → Generators → ℕ → ℕ → Taken → Allocated
 allocated s r c k (Took g w) = record { taken = Took g w; generators = assigned g c k r }
 allocated s r c k (Refused n) = record { taken = Refused n; generators = s }
 
--- step 1: "Masked channel: number 10"; then steps 2 to 5
+-- R5.1, R8.10: step 1, a masked channel; then steps 2 to 5
 unfoldable pub noteOn : Generators → Table → ℕ → Bool → ℕ → ℕ → Allocated
 noteOn s t p rhythm c k =
     if isMasked (shareOf t p c)

@@ -1,5 +1,5 @@
-// Which generator a note gets (document 01, "Note-on, velocity above 0"): steps 1 to 5 and the assignment, by value, for every value of the generators and
-// of the table. Assumes nothing.
+// Which generator a note gets (R5.1 to R5.11): steps 1 to 5 and the assignment, by value, for every value of the
+// generators and of the table. Assumes nothing.
 ghost use mathlib.Core.Path.{_≡_};
 ghost use Rattle.allocation.specs.Allocation.{cleared, choice, noteOn};
 use candidates::Found;

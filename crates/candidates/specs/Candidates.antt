@@ -1,4 +1,4 @@
--- Document 01, "Note-on", steps 4 and 5: the generator to take, and the counting of a channel's notes.
+-- The generators that a note-on may take, and the counting of a channel's notes.
 use Prim.Native.Nat.{ℕ}
 use mathlib.Core.Bool.{Bool}
 use mathlib.Core.Option.{Option, some, none}
@@ -16,11 +16,11 @@ abbrev pub found : Option ℕ → Found
 found none = Nothing
 found (some g) = At g
 
--- "Note-on", step 4: "the idle generator of lowest number", among the first P
+-- R5.5: the idle generator of lowest number, among the first P
 unfoldable pub lowestIdle : Generators → ℕ → Found
 lowestIdle s p = found (firstOf (λ g. isIdle (at s g)) (upTo (λ g. g) (atMost 64 p)))
 
--- step 4: "the oldest releasing one"; step 5: the "oldest busy generator" of a channel
+-- R5.6: releasing ones; R5.9: busy ones of a channel
 unfoldable pub wanted : Want → Generator → Bool
 wanted Releasing x = isReleasing x
 wanted (BusyOn c) x = isBusyOn c x
@@ -28,6 +28,6 @@ wanted (BusyOn c) x = isBusyOn c x
 unfoldable pub oldest : Want → Generators → Found
 oldest w s = found (firstOf (λ g. wanted w (at s g)) (oldestFirst (s .ages)))
 
--- step 5: "count each channel's busy generators"
+-- R5.7: the busy generators of a channel
 unfoldable pub busyCount : Generators → ℕ → ℕ
 busyCount s c = total (λ g. bit (isBusyOn c (at s g))) 64

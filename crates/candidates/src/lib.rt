@@ -1,4 +1,4 @@
-// The choice of a generator (document 01, "Note-on", steps 4 and 5), by value, for every value, in one pass each.
+// The generators that a note-on may take (R5.5 to R5.7, R5.9), by value, for every value, in one pass each.
 // Assumes nothing.
 ghost use mathlib.Core.Path.{_≡_};
 ghost use mathlib.Core.Bool.{not};

@@ -1,8 +1,8 @@
--- Document 01, "The device record" and "Other messages": the eleven numbers of a channel, program change and pitch bend.
+-- R1.8: the eleven numbers of a channel; program change and pitch bend.
 use Prim.Native.Nat.{ℕ}
 use Rattle.channels.specs.declared.Channel.{Channel}
 
--- "Every channel starts with 0, 0, 100, 64, 127, 0, 127, 127, 64, 0, 2"
+-- R1.9: a fresh channel
 unfoldable pub fresh : Channel
 fresh =
     record {
@@ -19,7 +19,7 @@ fresh =
       sensitivity = 2;
     }
 
--- "Program, bend .. are stored"
+-- R6.5: what a program change and a pitch bend store
 abbrev pub withProgram : Channel → ℕ → Channel
 withProgram c v =
     record {

@@ -1,5 +1,5 @@
-// What a channel remembers: its eleven numbers (document 01, "The device record"), program change and pitch bend; controllers are in crate controllers.
-// By value, for every value. Assumes nothing.
+// What a channel remembers: its eleven numbers (R1.8, R1.9), program change and pitch bend (R6.5); controllers are in
+// crate controllers. By value, for every value. Assumes nothing.
 ghost use mathlib.Core.Path.{_≡_};
 ghost use Rattle.channels.specs.Channel.{fresh, withProgram, withBend};
 

@@ -1,15 +1,16 @@
--- Document 01, "Other messages": controller n with value v, by what it leaves of its channel's numbers and by the notes that it ends.
+-- Controller n with value v: what it leaves of its channel's numbers (R6.6, R6.8, R6.9, R6.11), and which notes it
+-- ends (R6.7, R6.10 to R6.12).
 use Prim.Native.Nat.{ℕ}
 use mathlib.Core.Bool.{Bool, _&&_, _||_}
 use lib.Dec.{eqb, ltb}
 use Rattle.loops.specs.Cases.{if_then_else_, atMost}
 use Rattle.channels.specs.declared.Channel.{Channel}
 
--- "6 with RPN 0/0 stores the sensitivity, 24 if above 24": the sensitivity after controller 6
+-- R6.9: the sensitivity after controller 6
 unfoldable pub dataEntry : Channel → ℕ → ℕ
 dataEntry c v = if eqb (c .«rpn_msb») 0 && eqb (c .«rpn_lsb») 0 then atMost 24 v else c .sensitivity
 
--- "controllers 1, 7, 10, 11, 64, 100, 101 are stored", "98 and 99 set both RPN numbers to 127"; every other one, 38 among them, changes nothing
+-- R6.6: what each controller stores; R6.8: 98 and 99; R6.13: every other one, 38 among them, changes nothing
 unfoldable pub stored : Channel → ℕ → ℕ → Channel
 stored c n v =
     record {
@@ -26,7 +27,7 @@ stored c n v =
       sensitivity = if eqb n 6 then dataEntry c v else c .sensitivity;
     }
 
--- "121, value 0: modulation 0, expression 127, hold 0, RPN 127/127, bend 64/0"
+-- R6.11: what 121 leaves
 unfoldable pub reset : Channel → Channel
 reset c =
     record {
@@ -43,11 +44,12 @@ reset c =
       sensitivity = c .sensitivity;
     }
 
--- the numbers after any controller; 121 with another value than 0 changes nothing
+-- the numbers after any controller; R6.13: 121 with another value than 0 changes nothing
 unfoldable pub controlled : Channel → ℕ → ℕ → Channel
 controlled c n v = if eqb n 121 && eqb v 0 then reset c else stored c n v
 
--- the controllers that end notes: "Hold below 64" and "121, value 0" lift the pedal; "120, value 0" silences; "123, value 0" is a note-off for each key
+-- the controllers that end notes: R6.7, R6.11: hold below 64 and 121 lift the pedal; R6.10: 120 silences; R6.12: 123
+-- is a note-off for each key
 abbrev pub liftsPedal : ℕ → ℕ → Bool
 liftsPedal n v = eqb n 64 && ltb v 64 || eqb n 121 && eqb v 0
 

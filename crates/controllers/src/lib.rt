@@ -1,5 +1,6 @@
-// What controllers do to a channel's numbers, and which of them end notes (document 01, "Other messages"), by value, for every value. Masks are no matter
-// here: a masked channel's controllers are stored like any other's. What becomes of the notes is in crate other_messages. Assumes nothing.
+// What controllers do to a channel's numbers, and which of them end notes (R6.6 to R6.13), by value, for every value.
+// Masks are no matter here: a masked channel's controllers are stored like any other's (R6.14). What becomes of the
+// notes is in crate other_messages. Assumes nothing.
 ghost use mathlib.Core.Path.{_≡_};
 ghost use Rattle.controllers.specs.Controllers.{dataEntry, stored, reset, controlled, liftsPedal, silencesAll, endsAll};
 use channels::Channel;

@@ -1,5 +1,5 @@
--- Document 01, "The device record" and "Note-on": the generators, by their number g. There are 64 places; a device of polyphony P uses the first P, and the
--- others stay idle.
+-- The generators, by their number g (R1.3 to R1.5). There are 64 places; a device of polyphony P uses the first P,
+-- and the others stay idle.
 use Prim.Native.Nat.{ℕ}
 use mathlib.Core.Bool.{Bool, _&&_, _||_, not}
 use mathlib.Core.List.{[]}
@@ -11,7 +11,7 @@ use Rattle.generators.specs.declared.Generators.{Generators}
 
 -- ---- one generator
 
--- "A generator is idle, held (key down), sustained (key up, pedal down) or releasing": the number of each state
+-- R1.3, R18.3: the number of each state
 abbrev pub idle : ℕ
 idle = 0
 
@@ -47,7 +47,7 @@ isSustained x = eqb (x .state) sustained
 abbrev pub isReleasing : Generator → Bool
 isReleasing x = eqb (x .state) releasing
 
--- "Held and sustained are busy. All but idle are sounding"
+-- R1.4: busy and sounding
 abbrev pub isBusy : Generator → Bool
 isBusy x = isHeld x || isSustained x
 
@@ -62,7 +62,7 @@ isBusyOn c x = isBusy x && isOn c x
 
 -- ---- assignment
 
--- "The note is then held and is the newest"
+-- R5.11: held, with channel and key, and the newest
 unfoldable pub assigned : ℕ → ℕ → ℕ → Generators → Generators
 assigned g c k s =
     if ltb g 64
@@ -75,6 +75,6 @@ assigned g c k s =
     }
     else s
 
--- a fresh record: all are idle
+-- R1.10: a fresh record: all are idle
 unfoldable pub silent : Generators
 silent = record { state = replicate 64 idle; channel = replicate 64 0; key = replicate 64 0; ages = agesOf [] }

@@ -1,4 +1,4 @@
-// The generators: what each is, and how one is assigned (document 01, "The device record" and "Note-on"), by value, for every value.
+// The generators: what each is, and how one is assigned (R1.3 to R1.5, R5.11), by value, for every value.
 // Assumes nothing.
 ghost use mathlib.Core.Path.{_≡_};
 ghost use Rattle.generators.specs.Generators.{generator, isBusy, assigned, silent};

@@ -1,4 +1,4 @@
--- Document 01, "The device record": all but the parser, so that what acts on a whole message knows no bytes.
+-- The record but for its parser (R1.11), so that what acts on a whole message knows no bytes.
 use Prim.Native.Nat.{ℕ, _-_}
 use mathlib.Core.Bool.{Bool}
 use mathlib.Core.List.{List}
@@ -12,7 +12,7 @@ use Rattle.generators.specs.declared.Generators.{Generators}
 use Rattle.generators.specs.Generators.{silent}
 use Rattle.instrument.specs.declared.Instrument.{Instrument}
 
--- the sixteen channels; the wire carries the channel minus 1, which is its place here
+-- R1.8: the sixteen channels; R1.12: the wire carries the channel minus 1, which is its place here
 abbrev pub freshChannels : List Channel
 freshChannels = replicate 16 of-channel.fresh
 
@@ -22,7 +22,7 @@ channelAt l i = getD l i of-channel.fresh
 unfoldable pub replaced : List Channel → ℕ → Channel → List Channel
 replaced l i c = set l i c
 
--- "Polyphony P .. and own device ID .., fixed at the start"; a fresh record
+-- R1.10: a fresh record; R1.2: P and the own ID stay in every record below
 unfoldable pub fresh : ℕ → ℕ → Instrument
 fresh p id = record { polyphony = p; id = id; table = startTable p; channels = freshChannels; generators = silent }
 
@@ -42,10 +42,10 @@ channelOf i c = channelAt (i .channels) (c - 1)
 unfoldable pub withChannel : Instrument → ℕ → Channel → Instrument
 withChannel i c x = withChannels i (replaced (i .channels) (c - 1) x)
 
--- "hold is 64 or more"
+-- R6.3: whether the pedal of a channel is down
 abbrev pub pedalDown : Instrument → ℕ → Bool
 pedalDown i c = leb 64 (channelOf i c .hold)
 
--- the rhythm channel
+-- R5.12: the rhythm channel
 unfoldable pub isRhythm : Instrument → ℕ → Bool
 isRhythm i c = eqb c 10

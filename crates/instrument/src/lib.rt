@@ -1,5 +1,5 @@
-// The record of the sound module without its parser: what acts on a whole message works on it (document 01, "The device record"). By value, for every
-// value. Assumes nothing.
+// The record of the sound module without its parser: what acts on a whole message works on it (R1.10, R1.11). By
+// value, for every value. Assumes nothing.
 ghost use mathlib.Core.Path.{_≡_};
 ghost use Rattle.instrument.specs.Instrument.{fresh, replaced, channelOf, withChannel, withGenerators, pedalDown, isRhythm};
 use channels::Channel;

@@ -1,4 +1,4 @@
--- Document 01, "MIP table, masks, shares": "Busy generators of newly masked channels become releasing, pedal or not. No other channel's generator changes".
+-- R2.8: busy generators of newly masked channels become releasing; R2.9: no other generator changes.
 use Prim.Native.Nat.{ℕ}
 use mathlib.Core.Bool.{Bool, _&&_, not}
 use Rattle.loops.specs.Cases.{if_then_else_}

@@ -1,4 +1,5 @@
-// What a new table does to notes: those of newly masked channels are released (document 01, "MIP table, masks, shares"), by value, for every value.
+// What a new table does to notes: those of newly masked channels are released (R2.8, R2.9), by value, for every
+// value.
 // Assumes nothing.
 ghost use mathlib.Core.Path.{_≡_};
 ghost use mathlib.Core.Bool.{_&&_, not};

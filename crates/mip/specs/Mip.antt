@@ -1,4 +1,4 @@
--- Document 01, "MIP table, masks, shares" and "Numbers and what they leave": a MIP message is given as its data bytes after 0B 01.
+-- How a MIP message is judged (R3.3 to R3.5). It is given as its data bytes after 0B 01.
 use Prim.Native.Nat.{ℕ, _+_, _%_}
 use mathlib.Core.Bool.{_||_}
 use mathlib.Core.List.{List, [], _∷_, _++_}
@@ -13,13 +13,14 @@ use Rattle.mip.specs.declared.Verdict.{Verdict}
 use Rattle.mip.specs.declared.Verdict.the-variants.{Accepted, Refused}
 use Rattle.mip.specs.declared.Judged.{Judged}
 
--- "pairs mm vv": mm is the channel minus 1, vv its value
+-- R3.1: a pair is the channel minus 1 and its value; R2.1: by falling priority
 unfoldable pub pairs : List ℕ → List Entry
 pairs [] = []
 pairs (m ∷ []) = []
 pairs (m ∷ v ∷ l) = entry (m + 1) v ∷ pairs l
 
--- "then pair by pair 7, 8, 9, the first found": mm above 15, a channel listed twice, a value below the one before, which is v
+-- R3.5: pair by pair, the first fault decides: R8.7, no channel; R8.8, a channel listed twice; R8.9, a value below
+-- the one before, which is v
 unfoldable pub faulty : List Entry → ℕ → List Entry → Option ℕ
 faulty before v [] = none
 faulty before v (e ∷ l) =
@@ -31,7 +32,7 @@ faulty before v (e ∷ l) =
 abbrev pub refused : ℕ → Judged
 refused n = record { verdict = Refused n; table = tableOf [] }
 
--- "An accepted message replaces the table"
+-- R2.7: the table of an accepted message
 abbrev pub judgedBy : List Entry → Option ℕ → Judged
 judgedBy l none = record { verdict = Accepted; table = tableOf l }
 judgedBy l (some n) = refused n
@@ -39,14 +40,14 @@ judgedBy l (some n) = refused n
 abbrev pub judgedPairs : List Entry → Judged
 judgedPairs l = judgedBy l (faulty [] 0 l)
 
--- the whole message; "Order: .. 5, then 6, then pair by pair"
+-- the whole message; R3.4: R8.5, too many bytes, before R8.6, none or an odd number, before the pairs
 unfoldable pub judged : List ℕ → Judged
 judged l =
     if ltb 32 (length l) then refused 5 else
     if eqb (length l) 0 || eqb (length l % 2) 1 then refused 6 else
     judgedPairs (pairs l)
 
--- the number of document 01 for a verdict, where it has one
+-- the number of a verdict, where it has one
 abbrev pub numberOf : Verdict → Option ℕ
 numberOf Accepted = none
 numberOf (Refused n) = some n

@@ -1,5 +1,5 @@
-// The judgement of a MIP message (document 01, "MIP table, masks, shares"; numbers 5 to 9), by the parser that its F7 found, for every value of it.
-// Assumes nothing.
+// The judgement of a MIP message (R3.3 to R3.5), by the parser that its F7 found, for every value of it. Assumes
+// nothing.
 ghost use mathlib.Core.Path.{_≡_};
 ghost use Prim.Native.Nat.{_≤_};
 ghost use lib.ListN.{drop};

@@ -1,4 +1,4 @@
--- Document 01, "Other messages": what a note-off and a controller do to the sound module.
+-- What a note-off and a controller do to the sound module. R6.14: no mask is asked.
 use Prim.Native.Nat.{ℕ}
 use mathlib.Core.Bool.{Bool, _&&_, not}
 use Rattle.loops.specs.Cases.{if_then_else_}
@@ -11,7 +11,7 @@ use Rattle.silence.specs.Silence.{silenced}
 use Rattle.instrument.specs.declared.Instrument.{Instrument}
 use Rattle.instrument.specs.Instrument.{channelOf, withChannel, withGenerators, pedalDown, isRhythm}
 
--- "Note-off, or velocity 0 .. On channel 10 it changes nothing"
+-- R6.2: a note-off; R6.4: of a drum
 unfoldable pub playNoteOff : Instrument → ℕ → ℕ → Instrument
 playNoteOff i c k = if isRhythm i c then i else withGenerators i (changed (NoteOff (pedalDown i c) c k) (i .generators))
 
@@ -23,7 +23,7 @@ notesAfter pedal c n v s =
     if endsAll n v then changed (AllNotesOff pedal c) s else
     s
 
--- a controller: the channel's numbers and its notes; "on channel 10 it becomes releasing", whatever the pedal
+-- a controller: the channel's numbers and its notes; R6.12: on a rhythm channel 123 releases, whatever the pedal
 unfoldable pub playControl : Instrument → ℕ → ℕ → ℕ → Instrument
 playControl i c n v =
     withGenerators (withChannel i c (controlled (channelOf i c) n v))

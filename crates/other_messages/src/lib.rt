@@ -1,4 +1,4 @@
-// What a note-off and a controller do to the sound module (document 01, "Other messages"), by value, for every value. Masking stops note-ons and nothing else, so no
+// What a note-off and a controller do to the sound module (R6.2, R6.4, R6.7 to R6.14), by value, for every value. No
 // mask is looked at here. Assumes nothing.
 ghost use mathlib.Core.Path.{_≡_};
 ghost use Rattle.other_messages.specs.OtherMessages.{notesAfter, playNoteOff, playControl};

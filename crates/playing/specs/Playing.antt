@@ -1,5 +1,5 @@
--- Document 01, "Note-on" and "Other messages": what a complete channel message does to the sound module, and what it answers. What note-offs and controllers do is in
--- `other_messages`.
+-- What a complete channel message does to the sound module, and what it answers (R4.11, R4.12). What note-offs and
+-- controllers do is in `other_messages`.
 use Prim.Native.Nat.{ℕ}
 use mathlib.Core.Option.{Option, some, none}
 use Rattle.message.specs.declared.Message.{Message}
@@ -18,7 +18,7 @@ use Rattle.playing.specs.declared.Answer.the-variants.{Nothing, Done, No
 use Rattle.playing.specs.declared.Reply.{Reply}
 use Rattle.playing.specs.declared.Sounded.{Sounded}
 
--- "note (channel, key, generator, what the generator was ..)", or number 10 or 11
+-- R4.11: the answer to a note-on, or number 10 or 11
 abbrev pub replyOf : Taken → ℕ → ℕ → Answer
 replyOf (Took g w) c k = Note c k g w
 replyOf (Refused n) c k = NoNote n c k
@@ -37,7 +37,7 @@ soundedOf r = record { answer = r .answer; generators = r .instrument .generator
 abbrev pub replied : Answer → Instrument → Reply
 replied a i = record { answer = a; instrument = i }
 
--- "done (any other complete channel message ..)"; pressure changes nothing
+-- R4.12: every other message is answered done; R6.5: program and bend; R6.13: pressure changes nothing
 unfoldable pub played : Instrument → Message → Reply
 played i (message.NoteOn c k) = playNoteOn i c k
 played i (message.NoteOff c k) = replied Done (playNoteOff i c k)
@@ -46,7 +46,7 @@ played i (message.Program c n) = replied Done (withChannel i c (withProgram (cha
 played i (message.Bend c msb lsb) = replied Done (withChannel i c (withBend (channelOf i c) msb lsb))
 played i message.Other = replied Done i
 
--- the number of document 01 for an answer, where it has one
+-- the number of an answer, where it has one
 abbrev pub numberOf : Answer → Option ℕ
 numberOf Nothing = none
 numberOf Done = none

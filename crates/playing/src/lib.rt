@@ -1,5 +1,5 @@
-// What a complete channel message does to the sound module, and what it answers (document 01, "Note-on" and "Other messages"), by value, for every value.
-// Masking stops note-ons and nothing else. Assumes nothing.
+// What a complete channel message does to the sound module, and what it answers (R4.11, R4.12), by value, for every
+// value. Assumes nothing.
 ghost use mathlib.Core.Path.{_≡_};
 ghost use Rattle.playing.specs.Playing.{soundedOf, playNoteOn, replyOf, replied, played};
 use allocation::Taken;

@@ -1,5 +1,4 @@
--- Document 01, "Other messages": "Queries change nothing. They give a generator's state, channel and key; whether a channel is masked; its share, 0 if masked.
--- A refused query gives its number only."
+-- R7.3: queries give an answer and no record.
 use Prim.Native.Nat.{ℕ}
 use mathlib.Core.Option.{Option, some, none}
 use lib.Dec.{leb}
@@ -16,7 +15,7 @@ use Rattle.queries.specs.declared.MaskAnswer.the-variants.{IsMasked, IsU
 use Rattle.queries.specs.declared.ShareAnswer.{ShareAnswer}
 use Rattle.queries.specs.declared.ShareAnswer.the-variants.{ShareIs, NotAChannel}
 
--- number 12: "generator P or above"
+-- R7.4, R8.12: a generator's state, channel and key
 unfoldable pub generatorQuery : Device → ℕ → GeneratorAnswer
 generatorQuery d g =
     if leb (d .instrument .polyphony) g
@@ -27,7 +26,7 @@ abbrev pub generatorNumber : GeneratorAnswer → Option ℕ
 generatorNumber (GeneratorIs s c k) = none
 generatorNumber NoGenerator = some 12
 
--- number 14: "mask or share query, channel not 1 to 16"
+-- R7.5, R8.14: whether a channel is masked; R7.6: its share
 abbrev pub maskAnswer : Share → MaskAnswer
 maskAnswer Masked = IsMasked
 maskAnswer (Units n) = IsUnmasked

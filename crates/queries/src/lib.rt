@@ -1,4 +1,5 @@
-// The queries of the device (document 01, "Other messages"): they change nothing. By value, for every value of the record. Assumes nothing.
+// The queries of the device (R7.3 to R7.6): they change nothing. By value, for every value of the record. Assumes
+// nothing.
 ghost use mathlib.Core.Path.{_≡_};
 ghost use Rattle.queries.specs.Queries.{generatorQuery, maskQuery, shareQuery};
 use device::Device;

@@ -1,5 +1,4 @@
--- Document 01, "Note-on", step 2, "Other messages" and "MIP table, masks, shares": what releases or sustains notes. Only states change, and no generator
--- becomes idle.
+-- What releases or sustains notes. Only states change, and no generator becomes idle.
 use Prim.Native.Nat.{ℕ}
 use mathlib.Core.Bool.{Bool, _&&_}
 use mathlib.Core.List.{List}
@@ -11,11 +10,8 @@ use Rattle.generators.specs.Generators.{Generator, at, sustained, releasing, is
 use Rattle.releases.specs.declared.Change.{Change}
 use Rattle.releases.specs.declared.Change.the-variants.{ReleaseNote, ReleaseChannel, NoteOff, AllNotesOff, PedalUp}
 
--- "Note-on", step 2: "A busy generator of this channel and key becomes releasing"
--- "Busy generators of newly masked channels become releasing, pedal or not": those of one channel
--- "Note-off, or velocity 0: a held generator of that channel and key becomes sustained if hold is 64 or more, else releasing"
--- "123, value 0: each held generator is treated as by note-off"
--- "Hold below 64 makes the channel's sustained generators releasing"
+-- which generators a change means: R5.2, a new note of their key; R2.8, a mask over their channel; R6.2, their
+-- note-off; R6.12, all note-offs of their channel; R6.7, the pedal comes up
 unfoldable pub changes : Change → Generator → Bool
 changes (ReleaseNote c k) x = isBusyOn c x && eqb (x .key) k
 changes (ReleaseChannel c) x = isBusyOn c x
@@ -23,7 +19,7 @@ changes (NoteOff pedal c k) x = isHeld x && isOn c x && eqb (x .key) k
 changes (AllNotesOff pedal c) x = isHeld x && isOn c x
 changes (PedalUp c) x = isSustained x && isOn c x
 
--- the state after a key came up
+-- R6.2: the state after a key came up
 abbrev pub keyUp : Bool → ℕ
 keyUp pedal = if pedal then sustained else releasing
 

@@ -1,5 +1,5 @@
-// Changes of state: what keys, pedals and masks do to notes (document 01, "Note-on", step 2, and "Other messages"), by value, for every value,
-// in one pass over the generators. Assumes nothing.
+// Changes of state: what keys, pedals and masks do to notes (R2.8, R5.2, R6.2, R6.7, R6.12), by value, for every
+// value, in one pass over the generators. Assumes nothing.
 ghost use mathlib.Core.Path.{_≡_};
 ghost use lib.ListN.{getD};
 ghost use Rattle.loops.specs.Cases.{if_then_else_};

@@ -1,4 +1,4 @@
--- Document 01, "MIP table, masks, shares": which channels of a table are unmasked among P generators, and with which share.
+-- Which channels of a table are unmasked among P generators, and with which share (R2.2 to R2.5).
 -- Assumes nothing.
 use Prim.Native.Nat.{ℕ, _+_, _-_}
 use mathlib.Core.Bool.{Bool, true, false, _&&_}
@@ -11,8 +11,8 @@ use Rattle.table.specs.Table.{entry, entriesOf}
 use Rattle.shares.specs.declared.Share.{Share}
 use Rattle.shares.specs.declared.Share.the-variants.{Masked, Units}
 
--- "A listed channel is unmasked if its value is at most P"; "The share of an unmasked channel is its value minus the value before it (0 before the
--- first)": the unmasked channels by falling priority, each with its share in place of its value; v is the value before the first entry
+-- R2.2, R2.4: the unmasked channels by falling priority, each with its share in place of its value; v is the value
+-- before the first entry
 unfoldable pub sharesFrom : ℕ → ℕ → List Entry → List Entry
 sharesFrom p v [] = []
 sharesFrom p v (e ∷ l) =
@@ -33,7 +33,7 @@ unfoldable pub lookup : ℕ → List Entry → Share
 lookup c [] = Masked
 lookup c (e ∷ l) = if eqb c (e .channel) then Units (e .value) else lookup c l
 
--- the share of a channel; "An unlisted channel is masked", "A masked channel has no share"
+-- R2.3, R2.5: the share of a channel; what is not among them is masked, and has none
 unfoldable pub shareOf : Table → ℕ → ℕ → Share
 shareOf t p c = lookup c (shares p t)
 

@@ -1,5 +1,5 @@
-// Masks and shares: which channels of a table may play among P generators, and how many notes each is sure of (document 01, "MIP table, masks, shares").
-// By value, for every table value and every P. Assumes nothing.
+// Masks and shares: which channels of a table may play among P generators, and how many notes each is sure of (R2.2
+// to R2.5). By value, for every table value and every P. Assumes nothing.
 ghost use mathlib.Core.Path.{_≡_};
 ghost use Rattle.shares.specs.Shares.{shareOf, isMasked, isChannel};
 use loops::at_most;

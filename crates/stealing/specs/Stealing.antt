@@ -1,4 +1,4 @@
--- Document 01, "Note-on", step 5: the channel to steal from, and the generator that is stolen.
+-- Step 5 of a note-on: the channel to steal from, and the generator that is stolen.
 use Prim.Native.Nat.{ℕ, _+_}
 use mathlib.Core.List.{List, [], _∷_}
 use mathlib.Core.Option.{Option, some, none}
@@ -15,7 +15,7 @@ use Rattle.candidates.specs.Candidates.{oldest, busyCount}
 use Rattle.stealing.specs.declared.Loser.{Loser}
 use Rattle.stealing.specs.declared.Loser.the-variants.{Channel, Nobody}
 
--- "count each channel's busy generators, with the new note", which is one of channel new
+-- R5.7: the busy generators of channel c, with the new note, which is one of channel new
 abbrev pub counted : Generators → ℕ → ℕ → ℕ
 counted s new c = busyCount s c + bit (eqb c new)
 
@@ -23,7 +23,8 @@ abbrev pub otherwise : Option ℕ → Option ℕ → Option ℕ
 otherwise (some c) o = some c
 otherwise none o = o
 
--- "Among channels over their share take that of lowest priority": the last one in the list of shares whose count n is over its share
+-- R5.8: of the channels over their share the one of lowest priority: the last one in the list of shares whose count n
+-- is above its share
 unfoldable pub overShare : (ℕ → ℕ) → List Entry → Option ℕ
 overShare n [] = none
 overShare n (e ∷ l) = otherwise (overShare n l) (if ltb (e .value) (n (e .channel)) then some (e .channel) else none)
@@ -35,7 +36,7 @@ toLoser none = Nobody
 unfoldable pub stealFrom : Generators → Table → ℕ → ℕ → Loser
 stealFrom s t p new = toLoser (overShare (counted s new) (shares p t))
 
--- "Its oldest busy generator is stolen"
+-- R5.9: its oldest busy generator; R5.10: there may be none
 abbrev pub loses : Generators → Loser → Found
 loses s (Channel d) = oldest (BusyOn d) s
 loses s Nobody = Nothing

@@ -1,5 +1,5 @@
-// Who loses a note (document 01, "Note-on", step 5): the channel to steal from, and the generator that is stolen, for every value of the generators and of
-// the table. Assumes nothing.
+// Who loses a note (R5.7 to R5.10): the channel to steal from, and the generator that is stolen, for every value of
+// the generators and of the table. Assumes nothing.
 ghost use mathlib.Core.Path.{_≡_};
 ghost use Prim.Native.Nat.{_-_};
 ghost use mathlib.Core.Bool.{_&&_};

@@ -1,4 +1,4 @@
--- Document 01, "MIP table, masks, shares": the table lists channels by falling priority, each with the polyphony needed by it and all before it.
+-- R2.1: the MIP table.
 -- Assumes nothing.
 use Prim.Native.Nat.{ℕ}
 use mathlib.Core.Bool.{Bool, false, _||_}
@@ -19,7 +19,7 @@ entriesOf t = take (t .count) (t .entries)
 unfoldable pub tableOf : List Entry → Table
 tableOf l = record { count = length l; entries = padded 16 (entry 0 0) l }
 
--- "At start, the order is 10, 1 to 9, 11 to 16 .. and all sixteen values are P"
+-- R2.6: the starting table
 abbrev pub startOrder : List ℕ
 startOrder = 10 ∷ 1 ∷ 2 ∷ 3 ∷ 4 ∷ 5 ∷ 6 ∷ 7 ∷ 8 ∷ 9 ∷ 11 ∷ 12 ∷ 13 ∷ 14 ∷ 15 ∷ 16 ∷ []
 

@@ -1,5 +1,5 @@
-// The MIP table: channels by falling priority (document 01, "MIP table, masks, shares"), and the one of a start. Who may play by a table, and how much, is
-// in crate shares; a MIP message's table is made in crate mip.
+// The MIP table: channels by falling priority (R2.1), and the one of a start (R2.6). Who may play by a table, and how
+// much, is in crate shares; a MIP message's table is made in crate mip.
 // By value, for every table value and every P. Assumes nothing.
 ghost use mathlib.Core.Path.{_≡_};
 ghost use Rattle.table.specs.Table.{startTable};
