@@ -1,5 +1,4 @@
--- Document 01, "The device record": "A generator is older than another if its assignment came earlier". Over a list
--- of events: the order in the record is that of the last note answers.
+-- R10.10: the order of age in the record is that of the last note answers of the list.
 use Prim.Native.Nat.{ℕ}
 use mathlib.Core.Path.{_≡_}
 use mathlib.Core.List.{List, [], _∷_, _++_}

@@ -1,5 +1,5 @@
--- Document 01, "The note book of demand 3": the book. It is kept from messages, reports and answers; nothing that it
--- is made of looks at the device's record.
+-- The note book (section 9 of docs/RULES.md). R9.1: it is kept from messages, reports and answers; nothing that it is
+-- made of looks at the device's record.
 use Prim.Native.Nat.{ℕ, _+_}
 use mathlib.Core.Bool.{Bool, true, false, not, _&&_, _||_}
 use mathlib.Core.List.{List, map}
@@ -49,13 +49,12 @@ isDone (Number n) = false
 
 -- ---- the book
 
--- "For each generator it has one note or none: channel, key, down or on the pedal"
+-- R9.2: a note, or none
 pub data Slot : Type 0 where
   empty : Slot
   note : (onPedal : Bool) (channel key : ℕ) → Slot
 
--- "It also has P and the own ID .., each channel's hold and the table"; the slot of each generator, the hold of each
--- channel
+-- R9.3: P and the own ID, the slot of each generator, the hold of each channel, and the table
 pub record Book : Type 0 where
   pub polyphony : ℕ
   pub id : ℕ
@@ -72,15 +71,15 @@ withHolds b h = record { polyphony = b .polyphony; id = b .id; notes = b .notes;
 abbrev pub withTable : Book → List Entry → Book
 withTable b t = record { polyphony = b .polyphony; id = b .id; notes = b .notes; holds = b .holds; table = t }
 
--- "A fresh book has no note, hold 0 everywhere and the starting table"
+-- R9.4: a fresh book
 abbrev pub freshBook : ℕ → ℕ → Book
 freshBook p id = record { polyphony = p; id = id; notes = λ g. empty; holds = λ c. 0; table = map (λ (c : ℕ). entry c p) startOrder }
 
--- "P and the own ID from the start (1 and 0 if that was refused)"
+-- R9.3: the book of a start, of P 1 and own ID 0 where that was refused
 abbrev pub startBook : ℕ → ℕ → Answer → Book
 startBook p id a = if isDone a then freshBook p id else freshBook 1 0
 
--- the table, "which with P gives masks and shares"
+-- R9.3: masks and shares by the table and P
 abbrev pub shareOf : Book → ℕ → Share
 shareOf b c = lookup c (sharesFrom (b .polyphony) 0 (b .table))
 
@@ -112,8 +111,7 @@ abbrev pub isOfKey : ℕ → ℕ → Slot → Bool
 isOfKey c k empty = false
 isOfKey c k (note p d j) = eqb d c && eqb j k
 
--- "the channel's note of that key .., on channel 10 also those of other keys of its group": what a note-on of channel
--- c and key k ends
+-- R9.6: what a note-on of channel c and key k ends: the notes of its key, on a rhythm channel those of its group too
 abbrev pub isEnded : Bool → ℕ → ℕ → Slot → Bool
 isEnded rhythm c k empty = false
 isEnded rhythm c k (note p d j) = eqb d c && (eqb j k || rhythm && excludes k j)
@@ -144,8 +142,8 @@ exclusiveHeard l kind.Mip = newTable (pairs (drop 4 l))
 exclusiveHeard l kind.SystemOn = reset
 exclusiveHeard l kind.Other = nothing
 
--- what a byte completed; p is the splitter that it found. "A MIP message or GM System On is accepted if its d is 7F
--- or the own ID and its F7 answers done"
+-- what a byte completed; p is the splitter that it found. R9.5: a MIP message or a System On is accepted where it is
+-- for us and its F7 is answered done
 abbrev pub completedHeard : ℕ → Parser → Completed → Answer → Heard
 completedHeard id p completed.Nothing a = nothing
 completedHeard id p completed.Stray a = nothing
@@ -153,7 +151,7 @@ completedHeard id p completed.Cut a = nothing
 completedHeard id p (completed.Message s x y) a = message (decode s x y)
 completedHeard id p completed.SysEx a = if isDone a then exclusiveHeard (body p) (kindOf id (body p)) else nothing
 
--- "split as under Bytes, each at its last byte"
+-- R9.1: bytes are split as the device splits them, and a message is heard at its last byte
 abbrev pub eventHeard : Book → Parser → Event → Answer → Heard
 eventHeard b p (Byte x) a = completedHeard (b .id) p (split p x .completed) a
 eventHeard b p (Report g) a = report g
@@ -168,20 +166,19 @@ splitterAfter p (Report g) = p
 abbrev pub remaining : Book → ℕ → ℕ → ℕ → Slot
 remaining b c k g = freed (isEnded (isRhythm b c) c k) false (b .notes g)
 
--- "Note-on above 0, answered note with generator g: .. g has the new note, down. Answered by a number: no change"
+-- R9.6, R9.8: answered note with generator g; R9.9: answered otherwise
 abbrev pub keepNoteOn : Book → ℕ → ℕ → Answer → Book
 keepNoteOn b c k a = ifNote a (λ x y g w. withNotes b (put (remaining b c k) g (note false c k))) b
 
--- "a down note of that channel and key goes on the pedal if hold is 64 or more, else leaves. On channel 10: no change"
+-- R9.10: note-off
 abbrev pub keepNoteOff : Book → ℕ → ℕ → Book
 keepNoteOff b c k = if isRhythm b c then b else allFreed (λ s. isDown s && isOfKey c k s) (pedalDown b c) b
 
--- "64 sets the hold"; "121, value 0: hold 0"
+-- R9.11, R9.12: the hold after a controller
 abbrev pub holdAfter : ℕ → ℕ → ℕ → ℕ
 holdAfter n v h = if eqb n 64 then v else if eqb n 121 && eqb v 0 then 0 else h
 
--- "below 64 the channel's pedal notes leave", and at 121; "120, value 0: the channel's notes leave"; "123, value 0:
--- each down note as by note-off; on channel 10 it leaves"
+-- R9.11, R9.12, R9.13: the notes after a controller
 abbrev pub notesAfter : Book → ℕ → ℕ → ℕ → Book
 notesAfter b c n v =
     if liftsPedal n v then allFreed (λ s. isOnPedal s && isOf c s) false b else
@@ -200,7 +197,7 @@ keepMessage b (Program c n) a = b
 keepMessage b (Bend c msb lsb) a = b
 keepMessage b Other a = b
 
--- "Accepted MIP message: it is the table, and notes of channels it masks leave"
+-- R9.15: an accepted MIP message
 abbrev pub isOfMasked : Book → Slot → Bool
 isOfMasked b empty = false
 isOfMasked b (note p c k) = isMasked (shareOf b c)
@@ -208,11 +205,11 @@ isOfMasked b (note p c k) = isMasked (shareOf b c)
 abbrev pub keepTable : Book → List Entry → Book
 keepTable b t = allFreed (isOfMasked (withTable b t)) false (withTable b t)
 
--- "Report of g, answered done: a note on g leaves"
+-- R9.14: a report
 abbrev pub keepReport : Book → ℕ → Answer → Book
 keepReport b g a = if isDone a then withNotes b (put (b .notes) g empty) else b
 
--- "Accepted reset: the fresh book"; "Anything else: no change"
+-- R9.16: an accepted System On; R9.17: anything else
 unfoldable pub keep : Book → Heard → Answer → Book
 keep b nothing a = b
 keep b (message m) a = keepMessage b m a
@@ -226,7 +223,6 @@ keep b (report g) a = keepReport b g a
 abbrev pub notesOn : ℕ → ℕ → (ℕ → Slot) → ℕ
 notesOn p c n = total (λ g. bit (isOf c (n g))) p
 
--- "A channel's count at its note-on above 0 is its notes before, without that key and, on channel 10, the other keys
--- of its group, plus 1"
+-- R10.4: a channel's count at its note-on
 abbrev pub countAt : Book → ℕ → ℕ → ℕ
 countAt b c k = notesOn (b .polyphony) c (remaining b c k) + 1

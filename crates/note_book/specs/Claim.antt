@@ -1,5 +1,5 @@
--- Document 01, "The note book of demand 3": the one claim about every list of bytes and reports, which device and
--- book take side by side.
+-- The one claim about every list of bytes and reports, which device and book take side by side (section 10 of
+-- docs/RULES.md).
 use Prim.Native.Nat.{ℕ, _≤_, _<_}
 use mathlib.Core.Path.{_≡_}
 use mathlib.Core.Bool.{Bool, true, false, not, _&&_, _||_}
@@ -25,33 +25,32 @@ use Rattle.note_book.specs.Book.{Heard, nothing, message, newTable, rese
 
 -- ---- what is claimed at a note-on of channel c and key k with answer a
 
--- at most the share of an unmasked channel
+-- R10.6: at most the share of an unmasked channel; a masked one has no claim
 abbrev pub IsWithin : Share → ℕ → Type 0
 IsWithin Masked n = ⊥
 IsWithin (Units u) n = n ≤ u
 
--- "A note still on g leaves as stolen"
+-- R9.7: the note that leaves as stolen
 abbrev pub stolenNote : Book → ℕ → ℕ → Answer → Slot
 stolenNote b c k a = ifNote a (λ x y g w. remaining b c k g) empty
 
--- "a note-on above 0 answers stolen, makes a note leave as stolen or, on an unmasked channel, answers a number": more
--- than that sentence, since every answer but note turns an unmasked channel away, done and none as well as a number
+-- R10.9: a note is stolen, or one of an unmasked channel is answered otherwise than by note, by done or none as well
+-- as by a number
 abbrev pub isLoss : Book → ℕ → ℕ → Answer → Bool
 isLoss b c k a = ifNote a (λ x y g w. isStolen w || isNote (stolenNote b c k a)) (not (isMasked (shareOf b c)))
 
--- "every generator had a note before it, and none had one of that channel and key or, on channel 10, of another key
--- of its group"
+-- R10.9: every generator has a note, and none one that the new note ends
 abbrev pub IsFull : Book → ℕ → ℕ → Type 0
 IsFull b c k = (g : ℕ) → g < b .polyphony → (isNote (b .notes g) ≡ true) × (isEnded (isRhythm b c) c k (b .notes g) ≡ false)
 
--- "answers note", with that channel and key
+-- R10.7: answered note, with that channel and key
 abbrev pub isServed : ℕ → ℕ → Answer → Bool
 isServed c k a = ifNote a (λ x y g w. eqb x c && eqb y k) false
 
 abbrev pub Fair : Book → Answer → ℕ → ℕ → Type 0
 Fair b a c k = isLoss b c k a ≡ true → IsFull b c k
 
--- channel c asks for no more than its share; it is served, and none of its notes is stolen
+-- R10.6: channel c asks for no more than its share; R10.7, R10.8: it is served, and none of its notes is stolen
 abbrev pub Keeps : ℕ → Book → Answer → ℕ → ℕ → Type 0
 Keeps c b a d k = d ≡ c → IsWithin (shareOf b c) (countAt b c k)
 
@@ -71,7 +70,7 @@ AtNoteOn F (newTable t) = Unit {0}
 AtNoteOn F reset = Unit {0}
 AtNoteOn F (report g) = Unit {0}
 
--- "no MIP message and no reset is accepted"
+-- R10.5: what a run may have in it
 abbrev pub IsInRun : Heard → Type 0
 IsInRun nothing = Unit {0}
 IsInRun (message m) = Unit {0}
@@ -92,7 +91,7 @@ pub record System : Type 1 where
   pub answer : State → Event → Answer
   pub hears : State → Event → Heard
 
--- what of a generator is a note: "with its channel and key, held if down, sustained if on the pedal"
+-- R10.2: the note that a generator is
 abbrev pub slotOf : Generator → Slot
 slotOf x = if isHeld x then note false (x .channel) (x .key) else if isSustained x then note true (x .channel) (x .key) else empty
 
@@ -101,8 +100,7 @@ module _ (S : System) where
   after s [] = s
   after s (e ∷ l) = after (S .next s e) l
 
-  -- "the busy generators are exactly those with a note in the book"; "Generators are numbered 0 to P − 1": from P on
-  -- all are idle
+  -- R10.2: the busy generators are exactly those with a note in the book; R10.3: from P on all are idle
   pub record IsExact (s : S .State) : Type 0 where
     pub notes : (g : ℕ) → S .book s .notes g ≡ slotOf (at (S .instrument s .generators) g)
     pub beyond : (g : ℕ) → S .book s .polyphony ≤ g → isIdle (at (S .instrument s .generators) g) ≡ true
@@ -121,7 +119,7 @@ module _ (S : System) where
   IsRun s [] = Unit {0}
   IsRun s (e ∷ l) = IsInRun (S .hears s e) × IsRun (S .next s e) l
 
-  -- channel c never has more than its share in a run from s
+  -- R10.6: channel c stays within its share in a run from s
   abbrev pub StaysWithin : ℕ → S .State → List (S .Event) → Type 0
   StaysWithin c s run = IsWithin (shareOf (S .book s) c) (notesOn (S .book s .polyphony) c (S .book s .notes)) × Each (Keeps c) s run
 
@@ -156,6 +154,6 @@ Live = record {
   hears = λ s e. eventHeard (s .book) (s .splitter) e (taken (s .device) e .answer);
 }
 
--- "The list begins with the record of any start, a refused one too"
+-- R10.1: the list begins with the record of any start, a refused one too
 abbrev pub begin : ℕ → ℕ → Both
 begin p id = record { device = started p id .device; splitter = quiet; book = startBook p id (started p id .answer) }
