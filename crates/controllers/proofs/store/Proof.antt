@@ -79,7 +79,7 @@ either n lo hi = go (ltb n 99) refl
 
 returns-10 : tie.Need-returns-10
 unfolding stored
-returns-10 c = ⊎-elim (λ e. rw e) (λ e. rw e) (either (c .before .before .before .args .n) (omega arith) (omega arith))
+returns-10 c = ⊎-elim (λ e. rw e) (λ e. rw e) (either _ (c .before .if1 .left) (c .if2 .taken))
 
 returns-11 : tie.Need-returns-11
 returns-11 c = none (c .before .before) (λ e. omega arith) (λ e. omega arith)
