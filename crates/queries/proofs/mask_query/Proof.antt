@@ -6,19 +6,13 @@ use Rattle.loops.specs.Cases.{if_then_else_}
 use Rattle.shares.specs.declared.Share.{Share}
 use Rattle.shares.specs.declared.Share.the-variants.{Masked, Units}
 use Rattle.shares.specs.declared.MaskAnswer.the-variants.{IsMasked, IsUnmasked}
-use Rattle.shares.specs.Shares.{shareOf, isMasked, maskAnswer, maskQuery}
+use Rattle.shares.specs.Shares.{isMasked, maskAnswer, maskQuery}
 use Rattle.queries.proofs.mask_query.Statement.{statement}
 use Rattle.queries.proofs.mask_query.Tie as tie
 
 by-mask : (s : Share) → maskAnswer s ≡ (if isMasked s then IsMasked else IsUnmasked)
 by-mask Masked = refl
 by-mask (Units n) = refl
-
-is-channel-requires : tie.Need-is-channel-requires
-is-channel-requires c κs = search needs
-
-masks-requires : tie.Need-masks-requires
-masks-requires c κs = search needs
 
 returns : tie.Need-returns
 unfolding maskQuery
@@ -39,4 +33,4 @@ returns-3 c = simp (sym (c .before .is-channel .ensures) ∙ c .if1 .left)
 pub mask-query-spec : {M : Type 1} → statement M
 mask-query-spec =
     tie.close
-    (tie.spec is-channel-requires masks-requires returns returns-2 returns-3)
+    (tie.spec (λ c κs. search needs) (λ c κs. search needs) returns returns-2 returns-3)
