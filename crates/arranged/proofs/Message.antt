@@ -1,5 +1,5 @@
--- The laws of a message that is written: 38 bytes, which every device takes and gives back, with values that no line exceeds and some line reaches; and 38
--- zero bytes beside a number.
+-- The laws of a message that is written: 38 bytes, which every device takes and gives back, with values that no line
+-- exceeds and some line reaches; and 38 zero bytes beside a number.
 -- Assumes nothing.
 use mathlib.Core.Path.{_≡_, refl, sym, ap, _∙_}
 use mathlib.Core.Bool.{Bool, true, false}
@@ -10,6 +10,7 @@ use native.Mathlib.Omega.{arith}
 use lib.ListN.{length, replicate}
 use Rattle.loops.specs.Cases.{if_then_else_}
 use Rattle.loops.proofs.Fill.{length-upTo}
+use Rattle.loops.proofs.Tests.{impossible}
 use Rattle.table.specs.declared.Entry.{Entry}
 use Rattle.device.specs.declared.Device.{Device}
 use Rattle.events.specs.declared.Event.{Event}
@@ -42,7 +43,7 @@ wrote order log b o = if b then writtenBy order (records fresh (linesOf log)) (t
 
 fault-above : (d : Device) (ls : List (List ℕ)) (n : ℕ) → fault d ls ≡ some n → n ≡ 0 → ⊥
 unfolding fault atLine
-fault-above d [] n h k = absurd (let z : _≡_ {A = ℕ} 0 1 = cc in omega arith)
+fault-above d [] n h k = impossible (cc)
 fault-above d (l ∷ ls) n h k = at (eventOf l) (λ r q. fault-above r ls n q k) h
   where
     at : (o : Option Event) → ((r : Device) → fault r ls ≡ some n → ⊥) → atLine d (λ r. fault r ls) o ≡ some n → ⊥

@@ -1,5 +1,6 @@
--- In a log no number falls but those up to 11 and 13. A byte is answered with 3 to 11. A report is answered with 12 where its generator is not one of P; in a log P is 64 throughout,
--- since no event changes it, and a line's generator is below 64.
+-- In a log no number falls but those up to 11 and 13. A byte is answered with 3 to 11. A report is answered with 12
+-- where its generator is not one of P; in a log P is 64 throughout, since no event changes it, and a line's generator
+-- is below 64.
 -- Assumes nothing.
 use mathlib.Core.Path.{_≡_, refl, sym, _∙_}
 use mathlib.Core.Bool.{Bool, true, false, _||_}
@@ -11,6 +12,7 @@ use borrow.Author.Tests.{lt-leb}
 use lib.Dec.{eqb, leb, ltb}
 use lib.ListN.{length, getD}
 use Rattle.loops.specs.Cases.{if_then_else_}
+use Rattle.loops.proofs.Tests.{impossible}
 use Rattle.splitter.specs.declared.Parser.{Parser}
 use Rattle.splitter.specs.declared.Completed.{Completed}
 use Rattle.splitter.specs.declared.Completed.the-variants as completed
@@ -185,7 +187,7 @@ few-heard i p (completed.Message s a b) = few-played i (decode s a b)
 few-heard i p completed.SysEx = few-kind i (body p) (kindOf (i .id) (body p))
 
 few-some : (o : Option ℕ) (n : ℕ) → Few o → o ≡ some n → n ≤ 11
-few-some none n f h = absurd (let z : _≡_ {A = ℕ} 0 1 = cc in omega arith)
+few-some none n f h = impossible (cc)
 few-some (some m) n f h = let e : _≡_ {A = ℕ} m n = cc in omega arith
 
 -- ---- the numbers of an event
@@ -197,7 +199,7 @@ few-taken d (Report g) n p k h q = go (isIdle (at (d .instrument .generators) g)
   where
     go : (b : Bool) → numberOf ((if b then replied (answer.Number 13) (d .instrument) else replied answer.Done (instrument.withGenerators (d .instrument) (silenced (One g) (d .instrument .generators)))) .answer) ≡ some n → n ≤ 11
     go true h = let e : _≡_ {A = ℕ} 13 n = cc in absurd (q (sym e))
-    go false h = absurd (let z : _≡_ {A = ℕ} 0 1 = cc in omega arith)
+    go false h = impossible (cc)
 
 after-64 : (d : Device) (o : Option Event) → d .instrument .polyphony ≡ 64 → afterLine d o .instrument .polyphony ≡ 64
 unfolding afterLine

@@ -7,16 +7,16 @@ use mathlib.Core.List.{List, [], _∷_, _++_}
 use mathlib.Core.Option.{none}
 use Prim.Native.Nat.{ℕ, zero, suc, _+_, _-_, _≤_}
 use native.Mathlib.Omega.{arith}
-use borrow.Author.Tests.{lt-ltb, le-ltb, le-leb, eqb-true, eqb-false, ne-eqb}
-use lib.Dec.{eqb, ltb}
-use lib.ListN.{length, take, set}
+use borrow.Author.Tests.{lt-ltb, le-ltb, le-leb, eqb-false, ne-eqb}
+use lib.Dec.{eqb}
+use lib.ListN.{length, take}
 use lib.Seq.{take-all}
 use Rattle.loops.specs.Cases.{if_then_else_}
 use Rattle.loops.proofs.Tests.{or-left, or-right}
 use Rattle.splitter.specs.declared.Parser.{Parser}
 use Rattle.splitter.specs.declared.Split.{Split}
 use Rattle.splitter.specs.declared.Completed.the-variants as completed
-use Rattle.splitter.specs.Split.{begun, stored, inSysEx, body, dataByte, opened, ended, statusByte, split}
+use Rattle.splitter.specs.Split.{begun, stored, inSysEx, body, opened, ended, statusByte, split}
 use Rattle.splitter.proofs.Bounds.{bounded-begun, after, DataBytes, none, more, body-after, split-open, stays-open}
 use Rattle.table.specs.declared.Entry.{Entry}
 use Rattle.table.specs.Table.{entriesOf, tableOf, listed}

@@ -9,7 +9,7 @@ use native.Mathlib.Omega.{arith}
 use lib.Dec.{eqb}
 use lib.ListN.{length, take}
 use Rattle.loops.specs.Cases.{bit}
-use Rattle.loops.specs.Passes.{upTo, total}
+use Rattle.loops.specs.Passes.{upTo}
 use Rattle.loops.proofs.Totals.{total-le, total-bits}
 use Rattle.table.specs.Laws.{Rising}
 use Rattle.generators.specs.Generators.{at, isBusy}

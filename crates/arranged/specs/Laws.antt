@@ -41,7 +41,9 @@ pub record GivenBack (order log : List ℕ) (o : Output) : Type 0 where
 
 -- every message that is written, and every device: any P, own ID, table, notes and parser, an open SysEx among them
 abbrev pub ReaderTakes : Type 0
-ReaderTakes = (order log : List ℕ) → message order log .number ≡ 0 → (o : Output) → GivenBack order log (fed o (message order log .bytes))
+ReaderTakes =
+    (order log : List ℕ) → message order log .number ≡ 0
+    → (o : Output) → GivenBack order log (fed o (message order log .bytes))
 
 -- ---- the values
 
@@ -79,4 +81,5 @@ heardParts r (p ∷ ps) = heardParts (heard r p) ps
 
 -- R14.10: however a log is cut into parts, they come to the message of the whole
 abbrev pub PartsMakeNoDifference : Type 0
-PartsMakeNoDifference = (order : List ℕ) (ps : List (List ℕ)) → finished (heardParts (begun order) ps) ≡ message order (joined ps)
+PartsMakeNoDifference =
+    (order : List ℕ) (ps : List (List ℕ)) → finished (heardParts (begun order) ps) ≡ message order (joined ps)

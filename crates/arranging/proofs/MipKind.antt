@@ -4,8 +4,8 @@ use mathlib.Core.Path.{_≡_, refl}
 use mathlib.Core.Bool.{Bool, true, false}
 use mathlib.Core.List.{List}
 use Prim.Native.Nat.{ℕ}
-use native.Mathlib.Omega.{arith}
 use Rattle.loops.specs.Cases.{if_then_else_}
+use Rattle.loops.proofs.Tests.{impossible}
 use Rattle.sysex.specs.declared.Kind.the-variants.{Mip, SystemOn, Other}
 use Rattle.sysex.specs.SysEx.{isMip, isSystemOn, kindOf}
 
@@ -16,15 +16,15 @@ module _ (id : ℕ) (l : List ℕ) where
     where
       go : (a b : Bool) → (if a then Mip else if b then SystemOn else Other) ≡ Mip → a ≡ true
       go true b h = refl
-      go false true h = absurd (let z : _≡_ {A = ℕ} 0 1 = cc in omega arith)
-      go false false h = absurd (let z : _≡_ {A = ℕ} 0 1 = cc in omega arith)
+      go false true h = impossible (cc)
+      go false false h = impossible (cc)
 
   pub mip-no-on : kindOf id l ≡ SystemOn → isMip id l ≡ false
   unfolding kindOf
   mip-no-on h = go (isMip id l) h
     where
       go : (a : Bool) → (if a then Mip else if isSystemOn id l then SystemOn else Other) ≡ SystemOn → a ≡ false
-      go true h = absurd (let z : _≡_ {A = ℕ} 0 1 = cc in omega arith)
+      go true h = impossible (cc)
       go false h = refl
 
   pub mip-no-other : kindOf id l ≡ Other → isMip id l ≡ false
@@ -32,5 +32,5 @@ module _ (id : ℕ) (l : List ℕ) where
   mip-no-other h = go (isMip id l) h
     where
       go : (a : Bool) → (if a then Mip else if isSystemOn id l then SystemOn else Other) ≡ Other → a ≡ false
-      go true h = absurd (let z : _≡_ {A = ℕ} 0 1 = cc in omega arith)
+      go true h = impossible (cc)
       go false h = refl

@@ -1,14 +1,15 @@
--- An event that is answered *none* moves no generator: of what a byte completes, only nothing and a SysEx that is not for us answer none, and a report never does.
+-- An event that is answered *none* moves no generator: of what a byte completes, only nothing and a SysEx that is not
+-- for us answer none, and a report never does.
 -- Assumes nothing.
 use mathlib.Core.Path.{_≡_, refl, _∙_}
 use mathlib.Core.Bool.{Bool, true, false, _&&_}
 use mathlib.Core.List.{List}
 use Prim.Native.Nat.{ℕ}
-use native.Mathlib.Omega.{arith}
 use lib.Dec.{leb}
 use Rattle.loops.specs.Cases.{if_then_else_, bit}
 use Rattle.loops.proofs.Padded as padded
 use Rattle.loops.proofs.Totals.{total-zero, total-same}
+use Rattle.loops.proofs.Tests.{impossible}
 use Rattle.splitter.specs.declared.Parser.{Parser}
 use Rattle.splitter.specs.declared.Completed.{Completed}
 use Rattle.splitter.specs.declared.Completed.the-variants as completed
@@ -45,7 +46,7 @@ use Rattle.arranging.specs.Arranging.{fresh}
 use Rattle.arranging.specs.Run.{isQuiet}
 
 no : {A : Type 0} → false ≡ true → A
-no h = absurd (let z : _≡_ {A = ℕ} 0 1 = cc in omega arith)
+no h = impossible (cc)
 
 -- a channel message is never answered none
 played-answers : (i : Instrument) (m : Message) → isQuiet (played i m .answer) ≡ true → played i m .instrument ≡ i

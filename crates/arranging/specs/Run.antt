@@ -48,7 +48,9 @@ unfoldable pub eventPlayed : Song → Event → Song
 eventPlayed s e =
     let o = taken (s .device) e in
     if spoils (s .device) e then stopped s 17 else
-    song (o .device) (s .order) (if isQuiet (o .answer) then s .most else raised (s .order) (s .most) (o .device .instrument .generators)) (counted (s .lines)) 0
+    song (o .device) (s .order)
+    (if isQuiet (o .answer) then s .most else raised (s .order) (s .most) (o .device .instrument .generators))
+    (counted (s .lines)) 0
 
 abbrev pub meaningPlayed : Song → Option Event → Song
 meaningPlayed s none = stopped s 15
@@ -94,4 +96,7 @@ unfoldable pub endedBy : Song → ℕ → Written
 endedBy s n = if eqb n 0 then whole (s .order) (s .most) (s .lines) else refused 15 (counted (s .lines))
 
 unfoldable pub finished : Run → Written
-finished r = if eqb (r .song .number) 0 then endedBy (r .song) (r .line .count) else refused (r .song .number) (r .song .lines)
+finished r =
+    if eqb (r .song .number) 0
+    then endedBy (r .song) (r .line .count)
+    else refused (r .song .number) (r .song .lines)

@@ -1,6 +1,7 @@
 -- The device by its bytes, from its start on.
 use Prim.Native.Nat.{ℕ}
 use mathlib.Core.Bool.{Bool, _||_}
+use mathlib.Core.List.{List, [], _∷_}
 use lib.Dec.{ltb}
 use Rattle.loops.specs.Cases.{if_then_else_}
 use Rattle.splitter.specs.declared.Parser.{Parser}
@@ -51,4 +52,10 @@ outputOf p r = record { answer = r .answer; device = record { parser = p; instru
 
 -- a byte
 unfoldable pub byteTaken : Device → ℕ → Output
-byteTaken d b = outputOf (split (d .parser) b .parser) (heard (d .instrument) (d .parser) (split (d .parser) b .completed))
+byteTaken d b =
+    outputOf (split (d .parser) b .parser) (heard (d .instrument) (d .parser) (split (d .parser) b .completed))
+
+-- what a list of bytes leaves of a device
+unfoldable pub afterBytes : Device → List ℕ → Device
+afterBytes d [] = d
+afterBytes d (b ∷ l) = afterBytes (byteTaken d b .device) l

@@ -4,11 +4,11 @@
 use mathlib.Core.Path.{_≡_, refl, ap, ap₂, _∙_}
 use mathlib.Core.Bool.{Bool, true, false, _||_}
 use mathlib.Core.List.{List, [], _∷_, _++_}
-use mathlib.Core.Option.{Option, some, none}
+use mathlib.Core.Option.{some, none}
 use Prim.Native.Nat.{ℕ, _+_, _-_, _≤_, _<_}
 use native.Mathlib.Omega.{arith}
 use borrow.Author.Tests.{lt-ltb, le-ltb, le-leb, lt-leb}
-use lib.Dec.{ltb, leb}
+use lib.Dec.{leb}
 use Rattle.loops.specs.Cases.{if_then_else_}
 use Rattle.loops.specs.Passes.{upTo, total, filterBy, firstOf, padded}
 use Rattle.splitter.specs.Split.{quiet, begun, stored, oneDataByte, completed, dataByte, opened, ended, statusByte, split}
@@ -30,12 +30,12 @@ use Rattle.masking.specs.Masking.{masked}
 use Rattle.playing.specs.declared.Answer.the-variants.{Done, Number}
 use Rattle.playing.specs.Playing.{playNoteOn, played}
 use Rattle.device.specs.declared.Device.{Device}
-use Rattle.device.specs.Device.{freshDevice, freshOutput, outputOf, started, heard, byteTaken}
+use Rattle.device.specs.Device.{freshDevice, freshOutput, outputOf, started, heard, byteTaken, afterBytes}
 use Rattle.exclusive.specs.Exclusive.{newTable, judgedReply, mipTaken, exclusive}
 use Rattle.queries.specs.declared.MaskAnswer.{MaskAnswer}
 use Rattle.queries.specs.declared.MaskAnswer.the-variants.{IsMasked, IsUnmasked}
 use Rattle.queries.specs.Queries.{generatorQuery, maskAnswer, maskQuery, shareQuery}
-use Rattle.examples.specs.Examples.{after, Seen, mask, mip, maskBy, P1, P2, P3, P4, P5, P6, P7, P8, P9, computed, printed}
+use Rattle.examples.specs.Examples.{Seen, mask, mip, maskBy, P1, P2, P3, P4, P5, P6, P7, P8, P9, computed, printed}
 use Rattle.examples.specs.Examples as example
 
 -- a start with P from 1 to 64 is granted
@@ -47,21 +47,21 @@ granted p lo hi = ap₂ (λ (x y : Bool). (if x || y then freshOutput (Number 1)
 module _ (p v : ℕ) where
   -- the device before the value, and with it
   abbrev opened-mip : Device
-  opened-mip = after (freshDevice p 0) (0xF0 ∷ 0x7F ∷ 0x7F ∷ 0x0B ∷ 0x01 ∷ 0x00 ∷ [])
+  opened-mip = afterBytes (freshDevice p 0) (0xF0 ∷ 0x7F ∷ 0x7F ∷ 0x0B ∷ 0x01 ∷ 0x00 ∷ [])
 
   abbrev valued : Device
   valued = record { parser = stored (opened-mip .parser) v; instrument = opened-mip .instrument }
 
   -- it is a data byte
   value-stored : v < 128 → byteTaken opened-mip v .device ≡ valued
-  unfolding begun stored oneDataByte dataByte opened ended statusByte split heard byteTaken
+  unfolding begun stored oneDataByte dataByte opened ended statusByte split heard byteTaken afterBytes
   value-stored h =
       ap (λ (t : Bool). let q = if t then dataByte (opened-mip .parser) v else statusByte (opened-mip .parser) v in
       outputOf (q .parser) (heard (opened-mip .instrument) (opened-mip .parser) (q .completed)) .device) (lt-ltb v 128 h)
 
   -- it isn't below the value before it, of which there is none
   accepted-mip : maskQuery (byteTaken valued 0xF7 .device) 1 ≡ maskAnswer (shareOf (tableOf (entry 1 v ∷ [])) p 1)
-  unfolding begun stored oneDataByte dataByte opened ended statusByte split listed isMip isSystemOn kindOf pairs faulty judged fresh newTable mipTaken exclusive heard byteTaken maskQuery
+  unfolding begun stored oneDataByte dataByte opened ended statusByte split listed isMip isSystemOn kindOf pairs faulty judged fresh newTable mipTaken exclusive heard byteTaken afterBytes maskQuery
   accepted-mip =
       ap (λ (t : Bool). let j = judgedBy (entry 1 v ∷ []) (if t then some 9 else none) in
       maskQuery (record { parser = quiet; instrument = judgedReply (fresh p 0) (j .verdict) (j .table) .instrument }) 1) (le-ltb v 0 (omega arith))
@@ -76,13 +76,14 @@ module _ (p v : ℕ) where
       go false = refl
 
   mask-by : 1 ≤ p → p ≤ 64 → v < 128 → (t : Bool) → leb v p ≡ t → maskBy p v ≡ mask (if t then IsUnmasked else IsMasked) ∷ []
+  unfolding afterBytes
   mask-by lo hi h t e =
-      ap (λ (d : Device). mask (maskQuery (after d (mip (0x00 ∷ v ∷ []))) 1) ∷ []) (granted p lo hi)
+      ap (λ (d : Device). mask (maskQuery (afterBytes d (mip (0x00 ∷ v ∷ []))) 1) ∷ []) (granted p lo hi)
       ∙ ap (λ (d : Device). mask (maskQuery (byteTaken d 0xF7 .device) 1) ∷ []) (value-stored h)
       ∙ ap (λ (x : MaskAnswer). mask x ∷ []) (accepted-mip ∙ one-channel t e)
 
 fixed : P1 ++ P2 ++ (mask IsUnmasked ∷ []) ++ (mask IsMasked ∷ []) ++ P5 ++ P6 ++ P7 ++ P8 ++ P9 ≡ printed
-unfolding upTo total filterBy firstOf padded begun stored oneDataByte completed dataByte opened ended statusByte split decode tableOf startTable listed sharesFrom lookup shareOf shareQuery isMip isSystemOn kindOf pairs faulty judged groupOf excludes agesOf newest assigned silent changes stateAfter changed isAmong leaves silenced lowestIdle wanted oldest busyCount overShare stealFrom victim cleared choice noteOn fresh isRhythm masked playNoteOn played started newTable mipTaken exclusive heard byteTaken generatorQuery P1 P2 P5 P6 P7 P8 P9 printed
+unfolding upTo total filterBy firstOf padded begun stored oneDataByte completed dataByte opened ended statusByte split decode tableOf startTable listed sharesFrom lookup shareOf shareQuery isMip isSystemOn kindOf pairs faulty judged groupOf excludes agesOf newest assigned silent changes stateAfter changed isAmong leaves silenced lowestIdle wanted oldest busyCount overShare stealFrom victim cleared choice noteOn fresh isRhythm masked playNoteOn played started newTable mipTaken exclusive heard byteTaken afterBytes generatorQuery P1 P2 P5 P6 P7 P8 P9 printed
 fixed = refl
 
 pub paper-examples : (p : ℕ) → 1 ≤ p → p ≤ 64 → computed p ≡ printed

@@ -4,11 +4,11 @@ use Prim.Native.Nat.{ℕ, _+_}
 use mathlib.Core.List.{List, [], _∷_, _++_}
 use lib.ListN.{replicate}
 use Rattle.generators.specs.Generators.{held}
-use Rattle.allocation.specs.declared.Was.the-variants.{Idle, Release, Stolen}
+use Rattle.allocation.specs.declared.Was.the-variants.{Idle, Stolen}
 use Rattle.playing.specs.declared.Answer.{Answer}
 use Rattle.playing.specs.declared.Answer.the-variants.{Nothing, Done, Note, NoNote, Number}
 use Rattle.device.specs.declared.Device.{Device}
-use Rattle.device.specs.Device.{started, byteTaken}
+use Rattle.device.specs.Device.{started, byteTaken, afterBytes}
 use Rattle.queries.specs.declared.GeneratorAnswer.{GeneratorAnswer}
 use Rattle.queries.specs.declared.GeneratorAnswer.the-variants.{GeneratorIs}
 use Rattle.queries.specs.declared.MaskAnswer.{MaskAnswer}
@@ -17,11 +17,7 @@ use Rattle.queries.specs.declared.ShareAnswer.{ShareAnswer}
 use Rattle.queries.specs.declared.ShareAnswer.the-variants.{ShareIs}
 use Rattle.queries.specs.Queries.{generatorQuery, maskQuery, shareQuery}
 
--- the device after bytes, and its answer to the last of them
-abbrev pub after : Device → List ℕ → Device
-after d [] = d
-after d (b ∷ l) = after (byteTaken d b .device) l
-
+-- the answer to the last of some bytes
 abbrev pub lastAnswer : Device → List ℕ → Answer
 lastAnswer d [] = Nothing
 lastAnswer d (b ∷ []) = byteTaken d b .answer
@@ -62,15 +58,15 @@ answered d l = answer (lastAnswer d l) ∷ []
 
 -- a note-on, velocity 64, that takes generator g: what g was just before the last byte, and the answer
 abbrev pub noteOn : Device → List ℕ → ℕ → ℕ → List Seen
-noteOn d l key g = generator (generatorQuery (after d (l ++ (key ∷ []))) g) ∷ answered d (l ++ (key ∷ 64 ∷ []))
+noteOn d l key g = generator (generatorQuery (afterBytes d (l ++ (key ∷ []))) g) ∷ answered d (l ++ (key ∷ 64 ∷ []))
 
 -- whether channel 1, alone in the table with this value, is masked among P generators
 abbrev pub maskBy : ℕ → ℕ → List Seen
-maskBy p value = mask (maskQuery (after (fresh p) (mip (0x00 ∷ value ∷ []))) 1) ∷ []
+maskBy p value = mask (maskQuery (afterBytes (fresh p) (mip (0x00 ∷ value ∷ []))) 1) ∷ []
 
 -- the share of channel c by this table among 10 generators
 abbrev pub shareBy : List ℕ → ℕ → List Seen
-shareBy l c = share (shareQuery (after (fresh 10) (mip l)) c) ∷ []
+shareBy l c = share (shareQuery (afterBytes (fresh 10) (mip l)) c) ∷ []
 
 -- what the definitions say; P3 and P4 speak of every P
 unfoldable pub P1 : List Seen

@@ -1,4 +1,5 @@
--- What one byte can do to two counts: the bytes that the parser has in hand towards a note-on, and the notes of the book.
+-- What one byte can do to two counts: the bytes that the parser has in hand towards a note-on, and the notes of the
+-- book.
 -- Assumes nothing.
 use mathlib.Core.Path.{_≡_, refl, sym, ap}
 use mathlib.Core.Bool.{Bool, true, false, not, _&&_, _||_}
@@ -10,6 +11,7 @@ use lib.Dec.{eqb, leb, ltb}
 use Rattle.loops.specs.Cases.{if_then_else_, bit}
 use Rattle.loops.specs.Passes.{total}
 use Rattle.loops.proofs.Totals.{bit-le, total-le}
+use Rattle.loops.proofs.Tests.{impossible}
 use Rattle.splitter.specs.declared.Parser.{Parser}
 use Rattle.splitter.specs.declared.Completed.{Completed}
 use Rattle.splitter.specs.declared.Completed.the-variants as completed
@@ -107,7 +109,7 @@ has-key : (p : Parser) → atLast p ≡ true → p .status / 16 ≡ 9 → eqb (p
 has-key p l h = go (inSysEx p) (eqb (p .count) 0) (rw (two-bytes (p .status) h) at l)
   where
     go : (x y : Bool) → not x && (false || not y) ≡ true → y ≡ false
-    go true y e = absurd (let z : _≡_ {A = ℕ} 0 1 = cc in omega arith)
+    go true y e = impossible (cc)
     go false true e = sym e
     go false false e = refl
 

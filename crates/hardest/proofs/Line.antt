@@ -1,5 +1,6 @@
--- The song on the generators: in the order of age stand the last notes of the song, one after the other, all held on channel 1. The next key isn't among them,
--- for there are at most 64; it takes an idle generator while there is one, and then the oldest.
+-- The song on the generators: in the order of age stand the last notes of the song, one after the other, all held on
+-- channel 1. The next key isn't among them, for there are at most 64; it takes an idle generator while there is one,
+-- and then the oldest.
 -- Assumes nothing.
 use mathlib.Core.Path.{_≡_, refl, sym, ap, _∙_, subst}
 use mathlib.Core.Bool.{Bool, true, false, not, _||_}
@@ -14,6 +15,7 @@ use Rattle.loops.specs.Passes.{total, firstOf, filterBy, count}
 use Rattle.loops.proofs.Fill.{upTo-list}
 use Rattle.loops.proofs.Totals.{total-bits}
 use Rattle.loops.proofs.Occurs.{occurs, total-hole}
+use Rattle.loops.proofs.Tests.{impossible}
 use Rattle.table.specs.declared.Entry.{Entry}
 use Rattle.table.specs.Laws.{WellFormed}
 use Rattle.table.specs.Table.{entry, startOrder, startTable, listed}
@@ -255,14 +257,14 @@ module _ (p j : ℕ) (lo : 1 ≤ p) (s : Generators) (o : Lined p j s) where
     where
       go : Either g → sounds g ≡ true
       go (song k a b x y) = x
-      go (idle x) = absurd (let q : _≡_ {A = Bool} false true = sym (ap isNote (idle-empty (at s g) x)) ∙ e in let z : _≡_ {A = ℕ} 0 1 = cc in omega arith)
+      go (idle x) = let q : _≡_ {A = Bool} false true = sym (ap isNote (idle-empty (at s g) x)) ∙ e in impossible (cc)
 
   own : (g : ℕ) → isNote (slots g) ≡ true → isOf 1 (slots g) ≡ true
   own g e = go (either g)
     where
       go : Either g → isOf 1 (slots g) ≡ true
       go (song k a b x y) = ap (λ (z : Generator). isOf 1 (slotOf z)) y
-      go (idle x) = absurd (let q : _≡_ {A = Bool} false true = sym (ap isNote (idle-empty (at s g) x)) ∙ e in let z : _≡_ {A = ℕ} 0 1 = cc in omega arith)
+      go (idle x) = let q : _≡_ {A = Bool} false true = sym (ap isNote (idle-empty (at s g) x)) ∙ e in impossible (cc)
 
   oldest-one : (g : ℕ) → oldest (BusyOn 1) s ≡ At g → found (firstOf (λ x. isBusyOn 1 (at s x)) (order s)) ≡ At g
   unfolding oldest wanted
@@ -272,7 +274,7 @@ module _ (p j : ℕ) (lo : 1 ≤ p) (s : Generators) (o : Lined p j s) where
   take t (free g w z h e) = go (either g)
     where
       go : Either g → Plays (allocated s s 1 key (Took g w))
-      go (song k a b x y) = absurd (let r : note false 1 (k % 128) ≡ empty = sym (ap slotOf y) ∙ e in let q : _≡_ {A = ℕ} 0 1 = cc in omega arith)
+      go (song k a b x y) = let r : note false 1 (k % 128) ≡ empty = sym (ap slotOf y) ∙ e in impossible (cc)
       go (idle x) =
           let mute : sounds g ≡ false = rw x in
           let a = size in
@@ -308,7 +310,7 @@ module _ (p j : ℕ) (lo : 1 ≤ p) (s : Generators) (o : Lined p j s) where
           let one : d ≡ 1 = sym (eqb-true 1 d q) in
           let n = full in
           robs (front s (o .first) g (order s) (o .line) (omega arith) (oldest-one g (subst (λ (z : ℕ). oldest (BusyOn z) s ≡ At g) one r))) n x
-      go (idle x) = absurd (let q : _≡_ {A = Bool} false true = sym (ap (isOf d) (idle-empty (at s g) x)) ∙ e in let z : _≡_ {A = ℕ} 0 1 = cc in omega arith)
+      go (idle x) = let q : _≡_ {A = Bool} false true = sym (ap (isOf d) (idle-empty (at s g) x)) ∙ e in impossible (cc)
   take t (shut f v z) = absurd (let n = total-full (λ (g : ℕ). isOf 1 (slots g)) p (λ g l. own g (f g l)) in omega arith)
 
   -- The law: the next note of the song.

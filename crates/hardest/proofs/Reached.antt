@@ -1,4 +1,5 @@
--- The song reaches the most thefts: its bytes are a status byte and then pairs of a key and a velocity, of which each completes a note-on.
+-- The song reaches the most thefts: its bytes are a status byte and then pairs of a key and a velocity, of which each
+-- completes a note-on.
 -- Assumes nothing.
 use mathlib.Core.Path.{_≡_, refl, sym, ap, ap₂, _∙_, subst}
 use mathlib.Core.Bool.{Bool, true, false}
@@ -23,10 +24,11 @@ use Rattle.playing.specs.declared.Answer.the-variants as answer
 use Rattle.playing.specs.Playing.{replied, played, noteReply, playNoteOn}
 use Rattle.device.specs.declared.Device.{Device}
 use Rattle.device.specs.declared.Output.{Output}
-use Rattle.device.specs.Device.{freshDevice, heard, outputOf, byteTaken}
+use Rattle.device.specs.Device.{freshDevice, heard, outputOf, byteTaken, afterBytes}
+use Rattle.device.proofs.Bytes.{after-snoc}
 use Rattle.song.specs.declared.SongAnswer.the-variants.{Thefts}
 use Rattle.song.specs.Song.{isTheft, thefts, songByte, song, songAnswer}
-use Rattle.song.proofs.Played.{afterBytes, after-snoc, thefts-snoc}
+use Rattle.song.proofs.Played.{thefts-snoc}
 use Rattle.hardest.specs.Hardest.{mostThefts, polyphonyOf, Reached, AnswersMost}
 use Rattle.hardest.proofs.Starts.{in-range, every-start, started-fresh}
 use Rattle.hardest.proofs.Line.{Lined, lined-silent, Plays, plays}

@@ -1,4 +1,5 @@
--- Every start leaves a fresh device with P from 1 to 64. So what holds of each of these holds of every start, refused ones too.
+-- Every start leaves a fresh device with P from 1 to 64. So what holds of each of these holds of every start, refused
+-- ones too.
 -- Assumes nothing.
 use mathlib.Core.Path.{_≡_, refl}
 use mathlib.Core.Bool.{Bool, true, false, _||_}
@@ -7,6 +8,7 @@ use native.Mathlib.Omega.{arith}
 use borrow.Author.Tests.{ltb-false, le-ltb}
 use lib.Dec.{ltb}
 use Rattle.loops.specs.Cases.{if_then_else_}
+use Rattle.loops.proofs.Tests.{impossible}
 use Rattle.playing.specs.declared.Answer.the-variants as answer
 use Rattle.device.specs.declared.Device.{Device}
 use Rattle.device.specs.Device.{isWrongP, freshDevice, freshOutput, started}
@@ -16,8 +18,8 @@ pub in-range : (p : ℕ) → isWrongP p ≡ false → (1 ≤ p) × (p ≤ 64)
 in-range p e = go (ltb p 1) refl (ltb 64 p) refl e
   where
     go : (a : Bool) → ltb p 1 ≡ a → (b : Bool) → ltb 64 p ≡ b → a || b ≡ false → (1 ≤ p) × (p ≤ 64)
-    go true x b y e = absurd (let z : _≡_ {A = ℕ} 0 1 = cc in omega arith)
-    go false x true y e = absurd (let z : _≡_ {A = ℕ} 0 1 = cc in omega arith)
+    go true x b y e = impossible (cc)
+    go false x true y e = impossible (cc)
     go false x false y e = let l = ltb-false p 1 x in let h = ltb-false 64 p y in (omega arith, omega arith)
 
 pub every-start : (Q : Device → Type 0) → ((p id : ℕ) → 1 ≤ p → p ≤ 64 → Q (freshDevice p id)) → (p id : ℕ) → Q (started p id .device)

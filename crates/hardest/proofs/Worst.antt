@@ -1,5 +1,6 @@
--- No song does worse. A potential: twice the notes of the book and the bytes in hand. Each byte adds at most one to it; a theft finds all P generators with a
--- note and takes two away. So thefts wait for P notes, of two bytes each, and the first of them for a status byte.
+-- No song does worse. A potential: twice the notes of the book and the bytes in hand. Each byte adds at most one to it;
+-- a theft finds all P generators with a note and takes two away. So thefts wait for P notes, of two bytes each, and the
+-- first of them for a status byte.
 -- Assumes nothing.
 use mathlib.Core.Path.{_≡_, refl, sym, _∙_}
 use mathlib.Core.Bool.{Bool, true, false}
@@ -11,6 +12,7 @@ use lib.ListN.{length}
 use Rattle.loops.specs.Cases.{if_then_else_, bit}
 use Rattle.loops.specs.Passes.{filterBy}
 use Rattle.loops.proofs.Totals.{total-bits}
+use Rattle.loops.proofs.Tests.{impossible}
 use Rattle.splitter.specs.Split.{begun, split}
 use Rattle.message.specs.declared.Message.the-variants.{NoteOn, NoteOff, Control, Program, Bend, Other}
 use Rattle.instrument.specs.declared.Instrument.{Instrument}
@@ -74,7 +76,7 @@ calm-report b g a =
     either-way (Calm b) (isDone a) _ _ (record { same = refl; fewer = let h = count-put isNote (b .polyphony) g empty (b .notes) in omega arith }) (calm-same b)
 
 no-theft : {A : Type 0} (a : Answer) → isTheft a ≡ false → isTheft a ≡ true → A
-no-theft a f t = absurd (let q : _≡_ {A = Bool} false true = sym f ∙ t in let z : _≡_ {A = ℕ} 0 1 = cc in omega arith)
+no-theft a f t = let q : _≡_ {A = Bool} false true = sym f ∙ t in impossible (cc)
 
 of-calm : (b b′ : Book) (h : Heard) (a : Answer) → Calm b b′ → isTheft a ≡ false → Step b b′ h a
 of-calm b b′ h a c f = record { same = c .same; more = let k = c .fewer in omega arith; theft = no-theft a f }
@@ -82,7 +84,7 @@ of-calm b b′ h a c f = record { same = c .same; more = let k = c .fewer in ome
 -- an answer that names no generator is no theft
 unnamed : (a : Answer) → IsNoNote a → isTheft a ≡ false
 unfolding filterBy
-unnamed (answer.Note c k g w) n = absurd (let e = n [] in let z : _≡_ {A = ℕ} 0 1 = cc in omega arith)
+unnamed (answer.Note c k g w) n = let e = n [] in impossible (cc)
 unnamed answer.Nothing n = refl
 unnamed answer.Done n = refl
 unnamed (answer.NoNote m c k) n = refl

@@ -34,4 +34,6 @@ Reached = (p id n : ℕ) → thefts (newDevice p id) (song n) ≡ mostThefts (po
 
 -- what the call answers where it isn't refused
 abbrev pub AnswersMost : Type 0
-AnswersMost = (p n : ℕ) (buffer : List ℕ) → isWrongP p ≡ false → isTooLong n (length buffer) ≡ false → songAnswer p n buffer ≡ Thefts (mostThefts p n)
+AnswersMost =
+    (p n : ℕ) (buffer : List ℕ) → isWrongP p ≡ false → isTooLong n (length buffer) ≡ false
+    → songAnswer p n buffer ≡ Thefts (mostThefts p n)

@@ -1,5 +1,5 @@
--- A line is the line of at most one event, and reading finds it: every line of an event is read as that event (one test computed over all 320), and what is
--- read spells the line.
+-- A line is the line of at most one event, and reading finds it: every line of an event is read as that event (one test
+-- computed over all 320), and what is read spells the line.
 -- Assumes nothing.
 use mathlib.Core.Path.{_≡_, refl, sym, ap, _∙_}
 use mathlib.Core.Bool.{Bool, true, false, _&&_, _||_, not}
@@ -12,7 +12,7 @@ use lib.Dec.{eqb, leb, ltb}
 use lib.ListN.{take}
 use Rattle.loops.specs.Cases.{if_then_else_}
 use Rattle.loops.specs.Passes.{upTo, firstOf}
-use Rattle.loops.proofs.Tests.{and-left, and-right}
+use Rattle.loops.proofs.Tests.{and-left, and-right, impossible}
 use Rattle.events.specs.declared.Event.{Event}
 use Rattle.events.specs.declared.Event.the-variants.{Byte, Report}
 use Rattle.log.specs.Log.{decimal, lineOf, loggable, same, eventOf}
@@ -20,8 +20,8 @@ use Rattle.log.specs.Parse.{isDigit, eventBy, right, parse}
 
 same-true : (l m : List ℕ) → same l m ≡ true → l ≡ m
 same-true [] [] h = refl
-same-true [] (y ∷ m) h = absurd (let z : _≡_ {A = ℕ} 0 1 = cc in omega arith)
-same-true (x ∷ l) [] h = absurd (let z : _≡_ {A = ℕ} 0 1 = cc in omega arith)
+same-true [] (y ∷ m) h = impossible (cc)
+same-true (x ∷ l) [] h = impossible (cc)
 same-true (x ∷ l) (y ∷ m) h =
     let a = eqb-true x y (and-left (eqb x y) (same l m) h) in
     let b = same-true l m (and-right (eqb x y) (same l m) h) in
@@ -44,10 +44,10 @@ isEvent (Report a) none = false
 is-event : (e : Event) (o : Option Event) → isEvent e o ≡ true → o ≡ some e
 is-event (Byte a) (some (Byte b)) h = rw (eqb-true a b h)
 is-event (Report a) (some (Report b)) h = rw (eqb-true a b h)
-is-event (Byte a) (some (Report b)) h = absurd (let z : _≡_ {A = ℕ} 0 1 = cc in omega arith)
-is-event (Report a) (some (Byte b)) h = absurd (let z : _≡_ {A = ℕ} 0 1 = cc in omega arith)
-is-event (Byte a) none h = absurd (let z : _≡_ {A = ℕ} 0 1 = cc in omega arith)
-is-event (Report a) none h = absurd (let z : _≡_ {A = ℕ} 0 1 = cc in omega arith)
+is-event (Byte a) (some (Report b)) h = impossible (cc)
+is-event (Report a) (some (Byte b)) h = impossible (cc)
+is-event (Byte a) none h = impossible (cc)
+is-event (Report a) none h = impossible (cc)
 
 abbrev every : {A : Type 0} → (A → Bool) → List A → Bool
 every p [] = true
@@ -82,12 +82,12 @@ module _ (k v : ℕ) (digits : List ℕ) (d : decimal v ≡ digits) where
           let x : Byte v ≡ e = cc in
           rw (← x) (record { line = rw (eqb-true k 98 p, d); inside = ltb-true v 256 q })
       go true p false q true p′ b′ q′ h = let x = eqb-true k 98 p in let y = eqb-true k 101 p′ in absurd (omega arith)
-      go true p false q false p′ b′ q′ h = absurd (let z : _≡_ {A = ℕ} 0 1 = cc in omega arith)
+      go true p false q false p′ b′ q′ h = impossible (cc)
       go false p b q true p′ true q′ h =
           let x : Report v ≡ e = cc in
           rw (← x) (record { line = rw (eqb-true k 101 p′, d); inside = ltb-true v 64 q′ })
-      go false p b q true p′ false q′ h = absurd (let z : _≡_ {A = ℕ} 0 1 = cc in omega arith)
-      go false p b q false p′ b′ q′ h = absurd (let z : _≡_ {A = ℕ} 0 1 = cc in omega arith)
+      go false p b q true p′ false q′ h = impossible (cc)
+      go false p b q false p′ b′ q′ h = impossible (cc)
 
 record Digit (x : ℕ) : Type 0 where
   low : 48 ≤ x
@@ -157,12 +157,12 @@ is-right c e digits o v h = go (eqb c 44) refl (eqb e 0x0A) refl digits refl h
   where
     go : (a : Bool) → eqb c 44 ≡ a → (b : Bool) → eqb e 0x0A ≡ b → (d : Bool) → digits ≡ d → (if a && (b && d) then o else none) ≡ some v → Right c e digits o v
     go true p true q true r h = record { comma = eqb-true c 44 p; end = eqb-true e 0x0A q; all = r; value = h }
-    go true p true q false r h = absurd (let z : _≡_ {A = ℕ} 0 1 = cc in omega arith)
-    go true p false q d r h = absurd (let z : _≡_ {A = ℕ} 0 1 = cc in omega arith)
-    go false p b q d r h = absurd (let z : _≡_ {A = ℕ} 0 1 = cc in omega arith)
+    go true p true q false r h = impossible (cc)
+    go true p false q d r h = impossible (cc)
+    go false p b q d r h = impossible (cc)
 
 nothing : {A : Type 0} {e : Event} → none ≡ some e → A
-nothing h = absurd (let z : _≡_ {A = ℕ} 0 1 = cc in omega arith)
+nothing h = impossible (cc)
 
 parse-spells : (l : List ℕ) (v : Event) → parse l ≡ some v → Spelled l v
 unfolding parse
@@ -225,13 +225,13 @@ module _ {A : Type 0} (p : A → Bool) where
   first-none (x ∷ l) h = go (p x) h (λ k. first-none l k)
     where
       go : (b : Bool) → (if b then some x else firstOf p l) ≡ none → (firstOf p l ≡ none → every (λ x. not (p x)) l ≡ true) → not b && every (λ x. not (p x)) l ≡ true
-      go true h ih = absurd (let z : _≡_ {A = ℕ} 0 1 = cc in omega arith)
+      go true h ih = impossible (cc)
       go false h ih = ih h
 
   -- the first that passes passes, and whatever all pass
   first-passes : (q : A → Bool) (l : List A) (y : A) → firstOf p l ≡ some y → every q l ≡ true → (p y ≡ true) × (q y ≡ true)
   unfolding firstOf
-  first-passes q [] y h k = absurd (let z : _≡_ {A = ℕ} 0 1 = cc in omega arith)
+  first-passes q [] y h k = impossible (cc)
   first-passes q (x ∷ l) y h k = go (p x) refl h (λ s. first-passes q l y s (and-right (q x) (every q l) k))
     where
       go : (b : Bool) → p x ≡ b → (if b then some x else firstOf p l) ≡ some y → (firstOf p l ≡ some y → (p y ≡ true) × (q y ≡ true)) → (p y ≡ true) × (q y ≡ true)
@@ -272,8 +272,7 @@ no-event l e h s =
     let a = every-at (λ x. not (same l (lineOf x))) (first-none (λ x. same l (lineOf x)) loggable h) e (s .inside) in
     let b : same l (lineOf e) ≡ true = rw (← s .line) (same-refl l) in
     let z : _≡_ {A = Bool} (not true) true = sym (ap not b) ∙ a in
-    let y : _≡_ {A = ℕ} 0 1 = cc in
-    omega arith
+    impossible (cc)
 
 -- reading a line finds its event
 pub event-parse : (l : List ℕ) → eventOf l ≡ parse l
@@ -331,5 +330,4 @@ event-unended l h = go (eventOf l) refl
     go none e = refl
     go (some v) e =
         let z : _≡_ {A = Bool} true false = sym (line-ends v) ∙ ap hasEnd (sym (line-of l v e)) ∙ h in
-        let y : _≡_ {A = ℕ} 0 1 = cc in
-        absurd (omega arith)
+        impossible (cc)

@@ -29,7 +29,8 @@ parse (k ∷ []) = none
 parse (k ∷ c ∷ []) = none
 parse (k ∷ c ∷ x ∷ []) = none
 parse (k ∷ c ∷ x ∷ e ∷ []) = if right c e (isDigit x) then eventBy k (x - 48) else none
-parse (k ∷ c ∷ x ∷ y ∷ e ∷ []) = if right c e (not (eqb x 48) && (isDigit x && isDigit y)) then eventBy k (10 * (x - 48) + (y - 48)) else none
+parse (k ∷ c ∷ x ∷ y ∷ e ∷ []) =
+    if right c e (not (eqb x 48) && (isDigit x && isDigit y)) then eventBy k (10 * (x - 48) + (y - 48)) else none
 parse (k ∷ c ∷ x ∷ y ∷ z ∷ e ∷ []) =
     if right c e (not (eqb x 48) && (isDigit x && (isDigit y && isDigit z)))
     then eventBy k (100 * (x - 48) + 10 * (y - 48) + (z - 48))

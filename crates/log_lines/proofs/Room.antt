@@ -1,7 +1,7 @@
 -- The line of an answer has at most 139 bytes: a number of at most three digits, a line of at most twenty, 38 bytes of
 -- two digits and 37 blanks, two commas and its end. So it stands whole where there is room.
 -- Assumes nothing.
-use Prim.Native.Nat.{ℕ, _+_, _*_, _-_, _≤_, _<_}
+use Prim.Native.Nat.{ℕ, _+_, _*_, _≤_, _<_}
 use mathlib.Core.Path.{_≡_}
 use mathlib.Core.List.{List, [], _∷_, _++_}
 use native.Mathlib.Omega.{arith}

@@ -37,7 +37,10 @@ abbrev pub isPut : OrderLine → Bool
 isPut c = c .number .digit && eqb (c .number .commas) 0 && ltb (c .count) 16
 
 unfoldable pub putAway : OrderLine → OrderLine
-putAway c = if isPut c then orderLine newLine (c .count + 1) (set (c .channels) (c .count) (atMost 255 (c .number .last))) else lost
+putAway c =
+    if isPut c
+    then orderLine newLine (c .count + 1) (set (c .channels) (c .count) (atMost 255 (c .number .last)))
+    else lost
 
 -- a byte of the line, and several
 unfoldable pub orderByte : OrderLine → ℕ → OrderLine
@@ -118,7 +121,8 @@ standardOutput input = messageOf (arranged input)
 abbrev pub standardError : List ℕ → List ℕ
 standardError input = writtenLine (arranged input)
 
--- ---- the order's line by its fields, cut at its commas (crate `fields`, specs/Fields); that it is read so is in proofs/Sentences.antt
+-- ---- the order's line by its fields, cut at its commas (crate `fields`, specs/Fields); that it is read so is in
+-- proofs/Sentences.antt
 
 -- a comma before each field
 abbrev pub parted : List (List ℕ) → List ℕ

@@ -40,8 +40,10 @@ abbrev pub numbersOf : Answer → AnswerNumbers
 numbersOf Nothing = record { what = 0; number = 0; channel = 0; key = 0; generator = 0; was = 0 }
 numbersOf Done = record { what = 1; number = 0; channel = 0; key = 0; generator = 0; was = 0 }
 numbersOf (Note c k g w) = record { what = 2; number = 0; channel = c; key = k; generator = g; was = wasNumber w }
-numbersOf (NoNote n c k) = record { what = 3; number = orZero (numberOf (NoNote n c k)); channel = c; key = k; generator = 0; was = 0 }
-numbersOf (Number n) = record { what = 3; number = orZero (numberOf (Number n)); channel = 0; key = 0; generator = 0; was = 0 }
+numbersOf (NoNote n c k) =
+    record { what = 3; number = orZero (numberOf (NoNote n c k)); channel = c; key = k; generator = 0; was = 0 }
+numbersOf (Number n) =
+    record { what = 3; number = orZero (numberOf (Number n)); channel = 0; key = 0; generator = 0; was = 0 }
 
 -- R18.2, R7.3: the answers to queries; a refused one gives its number alone
 abbrev pub generatorNumbers : GeneratorAnswer → GeneratorNumbers
@@ -64,7 +66,8 @@ pitchNumbers a = record { entry = pitchIn a .entry; octave = pitchIn a .octave; 
 -- the gains of a call or, beside number 24, 0 and 0: what `gains.Answered` says of the answer, said of the plain
 -- numbers
 abbrev pub GainsTold : ℕ → ℕ → ℕ → GainNumbers → Type 0
-GainsTold e v p r = (r .number ≡ orZero (numberFor e v p)) × Gives (isOut e v p) e v p (record { left = r .left; right = r .right })
+GainsTold e v p r =
+    (r .number ≡ orZero (numberFor e v p)) × Gives (isOut e v p) e v p (record { left = r .left; right = r .right })
 
 abbrev pub GainsToldOf : Channel → GainNumbers → Type 0
 GainsToldOf c r = GainsTold (c .expression) (c .volume) (c .pan) r

@@ -13,7 +13,7 @@ use lib.Seq.{take-suc}
 use Rattle.loops.specs.Cases.{bit}
 use Rattle.loops.specs.Passes.{count}
 use Rattle.loops.proofs.Search.{count-append}
-use Rattle.loops.proofs.Tests.{and-left, and-right}
+use Rattle.loops.proofs.Tests.{and-left, and-right, impossible}
 use Rattle.order.specs.Order.{each, times}
 
 pub times-next : (l : List ℕ) (c i n b : ℕ) → i < length l → n ≡ times (take i l) c → b ≡ bit (eqb (getD l i 0) c) → n + b ≡ times (take (i + 1) l) c
@@ -42,6 +42,5 @@ each-false p n i h k = go (each p n) refl
     go : (b : Bool) → each p n ≡ b → false ≡ b
     go true e =
         let z : _≡_ {A = Bool} true false = sym (each-at p n i e h) ∙ k in
-        let y : _≡_ {A = ℕ} 0 1 = cc in
-        absurd (omega arith)
+        impossible (cc)
     go false e = refl

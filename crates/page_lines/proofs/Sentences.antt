@@ -1,5 +1,6 @@
--- What the program `page` writes for an input, sentence by sentence: however the input is cut into reads it is the same; a missing P or ID counts as 0; a refused start
--- writes its number on a line, whatever comes behind it; a good one the page of the device after the MIDI bytes.
+-- What the program `page` writes for an input, sentence by sentence: however the input is cut into reads it is the
+-- same; a missing P or ID counts as 0; a refused start writes its number on a line, whatever comes behind it; a good
+-- one the page of the device after the MIDI bytes.
 -- Assumes nothing.
 use Prim.Native.Nat.{ℕ, _≤_, _<_}
 use mathlib.Core.Path.{_≡_, refl, sym, ap, _∙_}
@@ -11,14 +12,14 @@ use Rattle.text.specs.Text.{decimalWithin}
 use Rattle.playing.specs.declared.Answer.the-variants as answer
 use Rattle.device.specs.declared.Device.{Device}
 use Rattle.device.specs.declared.Output.{Output}
-use Rattle.device.specs.Device.{freshDevice, isWrongP, started}
+use Rattle.device.specs.Device.{freshDevice, isWrongP, started, afterBytes}
 use Rattle.service.specs.Page.{pageText, pageAfter}
 use Rattle.listed.specs.declared.Awaits.the-variants.{Midi, Refused}
 use Rattle.listed.specs.declared.Lister.{Lister}
 use Rattle.listed.specs.Listing.{newLister, behindStart, startLister, afterMidi, after, afterAll}
 use Rattle.listed.proofs.Parts.{after-parts}
 use Rattle.listed.proofs.Sentences.{none-missing, nothing-changed, stopped}
-use Rattle.page_lines.specs.PageLines.{partsTaken, ended, numberLine, pageRoom, AnswerPut, answerText, paged, played}
+use Rattle.page_lines.specs.PageLines.{partsTaken, ended, numberLine, pageRoom, AnswerPut, answerText, paged}
 
 -- ---- however the input is cut into reads
 
@@ -87,8 +88,8 @@ wrong-id p id bs e h = refused-start p id 2 bs (rw (e, lt-ltb 126 id h)) ∙ lin
 -- ---- a good start
 
 -- one MIDI byte after the other
-plays : (l : Lister) (bs : List ℕ) → l .awaits ≡ Midi → (afterAll l bs .awaits ≡ Midi) × (afterAll l bs .device ≡ played (l .device) bs)
-unfolding afterAll after afterMidi played
+plays : (l : Lister) (bs : List ℕ) → l .awaits ≡ Midi → (afterAll l bs .awaits ≡ Midi) × (afterAll l bs .device ≡ afterBytes (l .device) bs)
+unfolding afterAll after afterMidi afterBytes
 plays l [] e = (e, refl)
 plays l (b ∷ bs) e = rw e (plays (afterMidi l b) bs refl)
 
@@ -96,12 +97,12 @@ page-text : (l : Lister) (d : Device) → l .awaits ≡ Midi → l .device ≡ d
 unfolding answerText ended afterAll
 page-text l d e f = rw e (ap pageText f)
 
-pub good-start : (p id : ℕ) (bs : List ℕ) → isWrongP p ≡ false → id ≤ 126 → paged (p ∷ id ∷ bs) ≡ pageText (played (freshDevice p id) bs)
+pub good-start : (p id : ℕ) (bs : List ℕ) → isWrongP p ≡ false → id ≤ 126 → paged (p ∷ id ∷ bs) ≡ pageText (afterBytes (freshDevice p id) bs)
 unfolding paged newLister afterAll after started startLister behindStart
 good-start p id bs e h =
     let l : Lister = record { awaits = Midi; at = 0; device = freshDevice p id } in
     let m = plays l bs refl in
-    rw (e, le-ltb 126 id h) (page-text (afterAll l bs) (played (freshDevice p id) bs) (m .0) (m .1))
+    rw (e, le-ltb 126 id h) (page-text (afterAll l bs) (afterBytes (freshDevice p id) bs) (m .0) (m .1))
 
 -- ---- without room for the page nothing is written
 

@@ -10,7 +10,6 @@ use lib.ListN.{length}
 use Rattle.loops.specs.Cases.{if_then_else_}
 use Rattle.text.specs.Text.{Put, decimal}
 use Rattle.device.specs.declared.Device.{Device}
-use Rattle.device.specs.Device.{byteTaken}
 use Rattle.listed.specs.declared.Awaits.{Awaits}
 use Rattle.listed.specs.declared.Awaits.the-variants.{Polyphony, Id, Midi, Refused}
 use Rattle.listed.specs.declared.Lister.{Lister}
@@ -37,7 +36,8 @@ answerBy (Id p) d = []
 answerBy Midi d = pageText d
 answerBy (Refused n) d = numberLine n
 
--- how that goes into a page: the service page whole or not at all, a number's line as far as there is room; the place behind it, and the page then
+-- how that goes into a page: the service page whole or not at all, a number's line as far as there is room; the place
+-- behind it, and the page then
 unfoldable pub pageRoom : List ℕ → ℕ
 pageRoom old = if ltb (length old) 323 then 0 else 323
 
@@ -53,8 +53,3 @@ answerText l = answerBy (l .awaits) (l .device)
 -- what standard output gets for an input; that it is this in whatever reads the input comes is in proofs/Sentences.antt
 unfoldable pub paged : List ℕ → List ℕ
 paged input = answerText (ended (afterAll newLister input))
-
--- a device after MIDI bytes
-unfoldable pub played : Device → List ℕ → Device
-played d [] = d
-played d (b ∷ bs) = played (byteTaken d b .device) bs

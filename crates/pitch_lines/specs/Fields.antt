@@ -14,5 +14,7 @@ unfoldable pub fieldsAnswer : List ℕ → List (List ℕ) → List ℕ
 fieldsAnswer k [] = malformedLine
 fieldsAnswer k (s ∷ []) = malformedLine
 fieldsAnswer k (s ∷ b ∷ []) =
-    if isNumber k && (isNumber s && isNumber b) then answerLine (pitchOf (spelled 0 k) (spelled 0 s) (spelled 0 b)) else malformedLine
+    if isNumber k && (isNumber s && isNumber b)
+    then answerLine (pitchOf (spelled 0 k) (spelled 0 s) (spelled 0 b))
+    else malformedLine
 fieldsAnswer k (s ∷ b ∷ g ∷ gs) = malformedLine

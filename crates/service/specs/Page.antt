@@ -59,7 +59,8 @@ head = 67 ∷ 72 ∷ 32 ∷ 80 ∷ 82 ∷ 32 ∷ 86 ∷ 65 ∷ 76 ∷ 32 ∷ 83 
 -- R15.3: channel, place, value, share, mark and busy generators, with blanks between them, and the line's end
 unfoldable pub line : ℕ → Standing → Share → ℕ → List ℕ
 line c at share busy =
-    inTwo c ++ 32 ∷ placeField at ++ 32 ∷ valueField at ++ 32 ∷ shareField share ++ 32 ∷ mark share ∷ 32 ∷ inTwo busy ++ 10 ∷ []
+    inTwo c ++ 32 ∷ placeField at ++ 32 ∷ valueField at ++ 32 ∷ shareField share
+    ++ 32 ∷ mark share ∷ 32 ∷ inTwo busy ++ 10 ∷ []
 
 -- the line of channel c, of a table, P, and each channel's number of busy generators
 unfoldable pub row : List Entry → ℕ → (ℕ → ℕ) → ℕ → List ℕ
@@ -76,7 +77,8 @@ pageOf table p busy = head ++ rowsTo table p busy 16
 
 -- the page of a device
 unfoldable pub pageText : Device → List ℕ
-pageText d = pageOf (entriesOf (d .instrument .table)) (d .instrument .polyphony) (busyCount (d .instrument .generators))
+pageText d =
+    pageOf (entriesOf (d .instrument .table)) (d .instrument .polyphony) (busyCount (d .instrument .generators))
 
 -- ---- the call
 

@@ -1,5 +1,6 @@
--- What stands under `NT` comes to the number of busy generators: each busy generator is counted on one channel, and that is one of the sixteen, since its note stands on a channel that
--- the table lists. The sum over channels of sums over generators is the sum over generators of sums over channels.
+-- What stands under `NT` comes to the number of busy generators: each busy generator is counted on one channel, and
+-- that is one of the sixteen, since its note stands on a channel that the table lists. The sum over channels of sums
+-- over generators is the sum over generators of sums over channels.
 -- Assumes nothing.
 use Prim.Native.Nat.{ℕ, zero, suc, _+_, _/_, _%_, _≤_, _<_}
 use mathlib.Core.Path.{_≡_, refl, sym, ap, _∙_}
@@ -11,6 +12,7 @@ use lib.Dec.{eqb, ltb, leb}
 use Rattle.loops.specs.Cases.{bit, if_then_else_}
 use Rattle.loops.specs.Passes.{total}
 use Rattle.loops.proofs.Totals.{total-same, total-add, total-zero, total-bits}
+use Rattle.loops.proofs.Tests.{impossible}
 use Rattle.table.specs.declared.Entry.{Entry}
 use Rattle.table.specs.Laws.{Channels}
 use Rattle.table.specs.Table.{listed}
@@ -59,7 +61,7 @@ module _ (c : ℕ) where
 -- a listed channel is one of the sixteen
 in-range : (c : ℕ) (l : List Entry) → Channels l → listed c l ≡ true → (1 ≤ c) × (c ≤ 16)
 unfolding listed
-in-range c [] h e = absurd (let z : _≡_ {A = ℕ} 0 1 = cc in omega arith)
+in-range c [] h e = impossible (cc)
 in-range c (x ∷ l) h e = go (eqb c (x .channel)) refl e (in-range c l (h .1))
   where
     go : (b : Bool) → eqb c (x .channel) ≡ b → b || listed c l ≡ true → (listed c l ≡ true → (1 ≤ c) × (c ≤ 16)) → (1 ≤ c) × (c ≤ 16)
@@ -73,7 +75,7 @@ busy-listed q x h e = go (isHeld x) refl (isSustained x) refl h e
     go : (a : Bool) → isHeld x ≡ a → (b : Bool) → isSustained x ≡ b → IsListed q (slotOf x) → a || b ≡ true → listed (x .channel) q ≡ true
     go true p b r h e = rw p at h
     go false p true r h e = rw (p, r) at h
-    go false p false r h e = absurd (let z : _≡_ {A = ℕ} 0 1 = cc in omega arith)
+    go false p false r h e = impossible (cc)
 
 -- a generator is counted once among the sixteen if it is busy, else never
 once : (x : Generator) → (isBusy x ≡ true → (1 ≤ x .channel) × (x .channel ≤ 16)) → total (λ i. bit (isBusyOn (i + 1) x)) 16 ≡ bit (isBusy x)

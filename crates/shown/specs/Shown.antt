@@ -35,7 +35,9 @@ bookPage b = pageOf (b .table) (b .polyphony) (λ c. notesOn (b .polyphony) c (b
 
 -- for every start, a refused one too, and every list of bytes and reports: the page of the device is that of the book
 abbrev pub ShowsTheBook : Type 0
-ShowsTheBook = (p id : ℕ) (l : List Event) → pageText (after Live (begin p id) l .device) ≡ bookPage (after Live (begin p id) l .book)
+ShowsTheBook =
+    (p id : ℕ) (l : List Event)
+    → pageText (after Live (begin p id) l .device) ≡ bookPage (after Live (begin p id) l .book)
 
 -- ---- the queries
 
@@ -93,7 +95,10 @@ readTwo text = (getD text 0 0 - 48) * 10 + (getD text 1 0 - 48)
 
 -- R15.8: what stands under `NT` comes to the number of busy generators
 abbrev pub NotesAddUp : Type 0
-NotesAddUp = (p id : ℕ) (l : List Event) → total (λ i. readTwo (field 16 2 (i + 1) (after Live (begin p id) l .device))) 16 ≡ allBusyTold (after Live (begin p id) l .device)
+NotesAddUp =
+    (p id : ℕ) (l : List Event)
+    → total (λ i. readTwo (field 16 2 (i + 1) (after Live (begin p id) l .device))) 16
+    ≡ allBusyTold (after Live (begin p id) l .device)
 
 -- ---- the text
 
@@ -119,7 +124,9 @@ pub record OfBytes (t : Table) : Type 0 where
 
 -- for every record of bytes, also one that no call makes
 abbrev pub SeventeenLines : Type 0
-SeventeenLines = (d : Device) → OfBytes (d .instrument .table) → (length (pageText d) ≡ 323) × ((n : ℕ) → n < 17 → IsLine (lineAt n (pageText d)))
+SeventeenLines =
+    (d : Device) → OfBytes (d .instrument .table)
+    → (length (pageText d) ≡ 323) × ((n : ℕ) → n < 17 → IsLine (lineAt n (pageText d)))
 
 -- R15.4: a number ends where its places end, with blanks before it
 abbrev pub right : ℕ → List ℕ → List ℕ

@@ -1,4 +1,5 @@
--- The loop of `write_song`: at turn i the first i bytes of the song are written and played, and those after them are as they were.
+-- The loop of `write_song`: at turn i the first i bytes of the song are written and played, and those after them are as
+-- they were.
 -- Assumes nothing.
 use mathlib.Core.Path.{_≡_, refl, sym, ap, ap₂, _∙_, subst}
 use mathlib.Core.Bool.{false}
@@ -16,10 +17,11 @@ use Rattle.loops.proofs.Tests.{or-left, or-right}
 use Rattle.loops.proofs.Totals.{bit-le}
 use Rattle.device.specs.declared.Device.{Device}
 use Rattle.device.specs.declared.Output.{Output}
-use Rattle.device.specs.Device.{isWrongP, started, byteTaken}
+use Rattle.device.specs.Device.{isWrongP, started, byteTaken, afterBytes}
+use Rattle.device.proofs.Bytes.{after-snoc}
 use Rattle.song.specs.declared.SongAnswer.the-variants.{Thefts}
 use Rattle.song.specs.Song.{isTheft, thefts, songByte, song, isTooLong, songAnswer, songWritten}
-use Rattle.song.proofs.Played.{afterBytes, after-snoc, thefts-snoc}
+use Rattle.song.proofs.Played.{thefts-snoc}
 
 -- P, n and the old buffer; then the buffer, the device, the thefts and the turn
 pub record Turn (p n : ℕ) (old new : List ℕ) (d : Device) (t i : ℕ) : Type 0 where

@@ -6,14 +6,8 @@ use borrow.Author.Needs.{needs}
 use Rattle.arranging.proofs.begin.Statement.{statement}
 use Rattle.arranging.proofs.begin.Tie as tie
 
-read-requires : tie.Need-read-requires
-read-requires c κs = search needs
-
-begin-with-requires : tie.Need-begin-with-requires
-begin-with-requires c κs = search needs
-
 returns : tie.Need-returns
 returns c = c .begin-with .ensures ∙ ap begunBy (c .before .read .ensures)
 
 pub begin-spec : {M : Type 1} → statement M
-begin-spec = tie.close (tie.spec read-requires begin-with-requires returns)
+begin-spec = tie.close (tie.spec (λ c κs. search needs) (λ c κs. search needs) returns)

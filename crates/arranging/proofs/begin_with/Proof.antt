@@ -5,18 +5,9 @@ use borrow.Author.Needs.{needs}
 use Rattle.arranging.proofs.begin_with.Statement.{statement}
 use Rattle.arranging.proofs.begin_with.Tie as tie
 
-start-requires : tie.Need-start-requires
-start-requires c κs = search needs
-
-if-else-requires : tie.Need-if-else-requires
-if-else-requires c κs = search needs
-
-new-requires : tie.Need-new-requires
-new-requires c κs = search needs
-
 returns : tie.Need-returns
 unfolding begunBy
 returns c = simp (c .new .ensures, c .before .if-else .ensures, c .before .before .before .before .start .ensures)
 
 pub begin-with-spec : {M : Type 1} → statement M
-begin-with-spec = tie.close (tie.spec start-requires if-else-requires new-requires returns)
+begin-with-spec = tie.close (tie.spec (λ c κs. search needs) (λ c κs. search needs) (λ c κs. search needs) returns)

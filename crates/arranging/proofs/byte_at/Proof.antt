@@ -9,20 +9,11 @@ use borrow.Author.Needs.{needs}
 use Rattle.arranging.proofs.byte_at.Statement.{statement}
 use Rattle.arranging.proofs.byte_at.Tie as tie
 
-array-read-result : tie.Need-array-read-result
-array-read-result c = search needs
-
 returns : tie.Need-returns
 returns c = let a = c .before .args in let g = c .before .good in byte-head (a .t1) (a .t2) (g .0 .1 .0 .1) (g .1 .0 .1 .0 .1) (a .i) (c .if1 .taken)
 
 returns-2 : tie.Need-returns-2
 returns-2 c = let a = c .before .before .args in let g = c .before .before .good in byte-last (a .t1) (a .t2) (g .0 .1 .0 .1) (g .1 .0 .1 .0 .1) (a .i) (c .if2 .taken)
-
-array-read-less : tie.Need-array-read-less
-array-read-less c = search needs
-
-less-requires : tie.Need-less-requires
-less-requires c κs = search needs
 
 returns-3 : tie.Need-returns-3
 returns-3 c =
@@ -31,9 +22,6 @@ returns-3 c =
     let g = s .good in
     let t : (a .i - 5) % 2 ≡ 0 = c .before .if3 .taken in
     c .less .ensures ∙ byte-channel (a .t1) (a .t2) (g .0 .1 .0 .1) (g .1 .0 .1 .0 .1) (a .i) ((a .i - 5) / 2) (omega arith) (omega arith)
-
-array-read-result-2 : tie.Need-array-read-result-2
-array-read-result-2 c = search needs
 
 returns-4 : tie.Need-returns-4
 returns-4 c =
@@ -48,11 +36,11 @@ pub byte-at-spec : {M : Type 1} → statement M
 byte-at-spec =
     tie.close
     (tie.spec
-    array-read-result
+    (λ c. search needs)
     returns
     returns-2
-    array-read-less
-    less-requires
+    (λ c. search needs)
+    (λ c κs. search needs)
     returns-3
-    array-read-result-2
+    (λ c. search needs)
     returns-4)

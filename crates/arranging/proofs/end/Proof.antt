@@ -8,20 +8,11 @@ use borrow.Author.Needs.{needs}
 use Rattle.arranging.proofs.end.Statement.{statement}
 use Rattle.arranging.proofs.end.Tie as tie
 
-has-fallen-requires : tie.Need-has-fallen-requires
-has-fallen-requires c κs = search needs
-
-refuse-requires : tie.Need-refuse-requires
-refuse-requires c κs = search needs
-
 returns : tie.Need-returns
 unfolding finished
 returns c =
     let n = c .before .before .before .before .before .args .r .song .number in
     simp (not-true (eqb n 0) (sym (c .before .before .has-fallen .ensures) ∙ c .before .if1 .taken), c .refuse .ensures)
-
-end-song-requires : tie.Need-end-song-requires
-end-song-requires c κs = search needs
 
 returns-2 : tie.Need-returns-2
 unfolding finished
@@ -30,4 +21,4 @@ returns-2 c =
     simp (not-false (eqb n 0) (sym (c .before .before .has-fallen .ensures) ∙ c .before .if1 .left), c .end-song .ensures)
 
 pub end-spec : {M : Type 1} → statement M
-end-spec = tie.close (tie.spec has-fallen-requires refuse-requires returns end-song-requires returns-2)
+end-spec = tie.close (tie.spec (λ c κs. search needs) (λ c κs. search needs) returns (λ c κs. search needs) returns-2)

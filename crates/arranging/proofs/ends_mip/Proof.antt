@@ -5,15 +5,6 @@ use borrow.Author.Needs.{needs}
 use Rattle.arranging.proofs.ends_mip.Statement.{statement}
 use Rattle.arranging.proofs.ends_mip.Tie as tie
 
-enum-known-e : tie.Need-enum-known-e
-enum-known-e c = search needs
-
-ends-mip-at-requires : tie.Need-ends-mip-at-requires
-ends-mip-at-requires c κs = search needs
-
-enum-told : tie.Need-enum-told
-enum-told c = search needs
-
 returns : tie.Need-returns
 unfolding endsMip
 returns c = simp (c .before .before .e .given .1, c .ends-mip-at .ensures)
@@ -23,4 +14,4 @@ unfolding endsMip
 returns-2 c = rw (c .enum-told .given .1)
 
 pub ends-mip-spec : {M : Type 1} → statement M
-ends-mip-spec = tie.close (tie.spec enum-known-e ends-mip-at-requires enum-told returns returns-2)
+ends-mip-spec = tie.close (tie.spec (λ c. search needs) (λ c κs. search needs) (λ c. search needs) returns returns-2)

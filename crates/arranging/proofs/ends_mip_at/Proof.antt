@@ -6,15 +6,6 @@ use borrow.Author.Needs.{needs}
 use Rattle.arranging.proofs.ends_mip_at.Statement.{statement}
 use Rattle.arranging.proofs.ends_mip_at.Tie as tie
 
-completes-requires : tie.Need-completes-requires
-completes-requires c κs = search needs
-
-is-sysex-requires : tie.Need-is-sysex-requires
-is-sysex-requires c κs = search needs
-
-is-mip-requires : tie.Need-is-mip-requires
-is-mip-requires c κs = search needs
-
 returns : tie.Need-returns
 returns c =
     let s = c .before .before in
@@ -26,4 +17,4 @@ returns-2 c =
     simp (sym (s .is-sysex .ensures ∙ ap isSysEx (s .before .completes .ensures)) ∙ c .if1 .left)
 
 pub ends-mip-at-spec : {M : Type 1} → statement M
-ends-mip-at-spec = tie.close (tie.spec completes-requires is-sysex-requires is-mip-requires returns returns-2)
+ends-mip-at-spec = tie.close (tie.spec (λ c κs. search needs) (λ c κs. search needs) (λ c κs. search needs) returns returns-2)

@@ -6,18 +6,6 @@ use borrow.Author.Needs.{needs}
 use Rattle.arranging.proofs.is_mip.Statement.{statement}
 use Rattle.arranging.proofs.is_mip.Tie as tie
 
-kind-of-requires : tie.Need-kind-of-requires
-kind-of-requires c κs = search needs
-
-enum-told : tie.Need-enum-told
-enum-told c = search needs
-
-enum-told-2 : tie.Need-enum-told-2
-enum-told-2 c = search needs
-
-enum-told-3 : tie.Need-enum-told-3
-enum-told-3 c = search needs
-
 returns : tie.Need-returns
 returns c = sym (mip-yes _ _ (sym (c .before .before .kind-of .ensures) ∙ c .enum-told .given .1))
 
@@ -30,4 +18,4 @@ returns-3 c = sym (mip-no-other _ _ (sym (c .before .before .kind-of .ensures) �
 pub is-mip-spec : {M : Type 1} → statement M
 is-mip-spec =
     tie.close
-    (tie.spec kind-of-requires enum-told enum-told-2 enum-told-3 returns returns-2 returns-3)
+    (tie.spec (λ c κs. search needs) (λ c. search needs) (λ c. search needs) (λ c. search needs) returns returns-2 returns-3)

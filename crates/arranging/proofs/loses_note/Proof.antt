@@ -5,24 +5,6 @@ use borrow.Author.Needs.{needs}
 use Rattle.arranging.proofs.loses_note.Statement.{statement}
 use Rattle.arranging.proofs.loses_note.Tie as tie
 
-enum-told : tie.Need-enum-told
-enum-told c = search needs
-
-enum-told-2 : tie.Need-enum-told-2
-enum-told-2 c = search needs
-
-enum-known-a : tie.Need-enum-known-a
-enum-known-a c = search needs
-
-is-theft-requires : tie.Need-is-theft-requires
-is-theft-requires c κs = search needs
-
-enum-known-a-2 : tie.Need-enum-known-a-2
-enum-known-a-2 c = search needs
-
-enum-known-a-3 : tie.Need-enum-known-a-3
-enum-known-a-3 c = search needs
-
 returns : tie.Need-returns
 unfolding losesNote
 returns c = rw (c .enum-told .given .1)
@@ -47,12 +29,12 @@ pub loses-note-spec : {M : Type 1} → statement M
 loses-note-spec =
     tie.close
     (tie.spec
-    enum-told
-    enum-told-2
-    enum-known-a
-    is-theft-requires
-    enum-known-a-2
-    enum-known-a-3
+    (λ c. search needs)
+    (λ c. search needs)
+    (λ c. search needs)
+    (λ c κs. search needs)
+    (λ c. search needs)
+    (λ c. search needs)
     returns
     returns-2
     returns-3

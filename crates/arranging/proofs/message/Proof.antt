@@ -8,15 +8,6 @@ use borrow.Author.Needs.{needs}
 use Rattle.arranging.proofs.message.Statement.{statement}
 use Rattle.arranging.proofs.message.Tie as tie
 
-begin-requires : tie.Need-begin-requires
-begin-requires c κs = search needs
-
-take-requires : tie.Need-take-requires
-take-requires c κs = search needs
-
-end-requires : tie.Need-end-requires
-end-requires c κs = search needs
-
 returns : tie.Need-returns
 returns c =
     let a = c .before .before .before .before .before .args in
@@ -25,4 +16,4 @@ returns c =
     ∙ parts (a .order .now) (a .log .now)
 
 pub message-spec : {M : Type 1} → statement M
-message-spec = tie.close (tie.spec begin-requires take-requires end-requires returns)
+message-spec = tie.close (tie.spec (λ c κs. search needs) (λ c κs. search needs) (λ c κs. search needs) returns)

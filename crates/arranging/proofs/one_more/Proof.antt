@@ -6,9 +6,6 @@ use borrow.Author.Needs.{needs}
 use Rattle.arranging.proofs.one_more.Statement.{statement}
 use Rattle.arranging.proofs.one_more.Tie as tie
 
-add-result : tie.Need-add-result
-add-result c = search needs
-
 returns : tie.Need-returns
 returns c = told-next _ (c .if1 .taken)
 
@@ -16,4 +13,4 @@ returns-2 : tie.Need-returns-2
 returns-2 c = let f = c .before .fits in told-last _ (c .if1 .left) (omega arith)
 
 pub one-more-spec : {M : Type 1} → statement M
-one-more-spec = tie.close (tie.spec add-result returns returns-2)
+one-more-spec = tie.close (tie.spec (λ c. search needs) returns returns-2)

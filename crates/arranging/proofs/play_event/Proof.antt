@@ -8,29 +8,11 @@ use borrow.Author.Needs.{needs}
 use Rattle.arranging.proofs.play_event.Statement.{statement}
 use Rattle.arranging.proofs.play_event.Tie as tie
 
-apply-requires : tie.Need-apply-requires
-apply-requires c κs = search needs
-
-ends-mip-requires : tie.Need-ends-mip-requires
-ends-mip-requires c κs = search needs
-
-loses-note-requires : tie.Need-loses-note-requires
-loses-note-requires c κs = search needs
-
-stop-requires : tie.Need-stop-requires
-stop-requires c κs = search needs
-
 returns : tie.Need-returns
 unfolding eventPlayed spoils
 returns c =
     let a = c .before in
     simp (rw (a .before .before .ends-mip .ensures, a .before .loses-note .ensures, a .before .before .before .apply .ensures) at (a .if1 .taken), c .stop .ensures)
-
-one-more-requires : tie.Need-one-more-requires
-one-more-requires c κs = search needs
-
-is-quiet-requires : tie.Need-is-quiet-requires
-is-quiet-requires c κs = search needs
 
 returns-2 : tie.Need-returns-2
 unfolding eventPlayed spoils
@@ -38,9 +20,6 @@ returns-2 c =
     let a = c .before .before .before .before .before .before in
     let e = a .before .before .before .apply .ensures in
     simp (rw (a .before .before .ends-mip .ensures, a .before .loses-note .ensures, e) at (a .if1 .left), rw e at (sym (c .before .is-quiet .ensures) ∙ c .if2 .taken), c .before .before .one-more .ensures, e)
-
-raise-requires : tie.Need-raise-requires
-raise-requires c κs = search needs
 
 returns-3 : tie.Need-returns-3
 unfolding eventPlayed spoils
@@ -54,13 +33,13 @@ pub play-event-spec : {M : Type 1} → statement M
 play-event-spec =
     tie.close
     (tie.spec
-    apply-requires
-    ends-mip-requires
-    loses-note-requires
-    stop-requires
+    (λ c κs. search needs)
+    (λ c κs. search needs)
+    (λ c κs. search needs)
+    (λ c κs. search needs)
     returns
-    one-more-requires
-    is-quiet-requires
+    (λ c κs. search needs)
+    (λ c κs. search needs)
     returns-2
-    raise-requires
+    (λ c κs. search needs)
     returns-3)

@@ -11,18 +11,9 @@ use borrow.Author.Needs.{needs}
 use Rattle.arranging.proofs.play_line.Statement.{statement}
 use Rattle.arranging.proofs.play_line.Tie as tie
 
-has-fallen-requires : tie.Need-has-fallen-requires
-has-fallen-requires c κs = search needs
-
 returns : tie.Need-returns
 unfolding linePlayed
 returns c = simp (not-true (eqb (c .before .before .args .s .number) 0) (sym (c .before .has-fallen .ensures) ∙ c .if1 .taken))
-
-read-requires : tie.Need-read-requires
-read-requires c κs = search needs
-
-play-meaning-requires : tie.Need-play-meaning-requires
-play-meaning-requires c κs = search needs
 
 returns-2 : tie.Need-returns-2
 unfolding linePlayed
@@ -31,4 +22,4 @@ returns-2 c =
     simp (not-false (eqb (a .s .number) 0) (sym (c .before .before .before .has-fallen .ensures) ∙ c .before .before .if1 .left)) (c .play-meaning .ensures ∙ ap (playedBy (a .s)) (c .before .read .ensures) ∙ by-meaning (a .s) (eventOf (textOf (a .l))))
 
 pub play-line-spec : {M : Type 1} → statement M
-play-line-spec = tie.close (tie.spec has-fallen-requires returns read-requires play-meaning-requires returns-2)
+play-line-spec = tie.close (tie.spec (λ c κs. search needs) returns (λ c κs. search needs) (λ c κs. search needs) returns-2)

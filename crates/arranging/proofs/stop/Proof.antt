@@ -5,12 +5,9 @@ use borrow.Author.Needs.{needs}
 use Rattle.arranging.proofs.stop.Statement.{statement}
 use Rattle.arranging.proofs.stop.Tie as tie
 
-one-more-requires : tie.Need-one-more-requires
-one-more-requires c κs = search needs
-
 returns : tie.Need-returns
 unfolding stopped
 returns c = rw (c .one-more .ensures)
 
 pub stop-spec : {M : Type 1} → statement M
-stop-spec = tie.close (tie.spec one-more-requires returns)
+stop-spec = tie.close (tie.spec (λ c κs. search needs) returns)

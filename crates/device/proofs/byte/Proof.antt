@@ -5,15 +5,9 @@ use borrow.Author.Needs.{needs}
 use Rattle.device.proofs.byte.Statement.{statement}
 use Rattle.device.proofs.byte.Tie as tie
 
-split-requires : tie.Need-split-requires
-split-requires c κs = search needs
-
-take-requires : tie.Need-take-requires
-take-requires c κs = search needs
-
 returns : tie.Need-returns
 unfolding byteTaken
 returns c = simp (c .before .take .ensures, c .before .before .before .split .ensures)
 
 pub byte-spec : {M : Type 1} → statement M
-byte-spec = tie.close (tie.spec split-requires take-requires returns)
+byte-spec = tie.close (tie.spec (λ c κs. search needs) (λ c κs. search needs) returns)

@@ -5,12 +5,9 @@ use borrow.Author.Needs.{needs}
 use Rattle.events.proofs.report.Statement.{statement}
 use Rattle.events.proofs.report.Tie as tie
 
-ended-requires : tie.Need-ended-requires
-ended-requires c κs = search needs
-
 returns : tie.Need-returns
 unfolding reportTaken
 returns c = simp (c .before .ended .ensures)
 
 pub report-spec : {M : Type 1} → statement M
-report-spec = tie.close (tie.spec ended-requires returns)
+report-spec = tie.close (tie.spec (λ c κs. search needs) returns)

@@ -28,12 +28,6 @@ loop-holds c = refl
 shared-slice-read-next : tie.Need-shared-slice-read-next Inv-loop μ-loop
 shared-slice-read-next c = left (c .before .before .loop .i) (length (c .before .before .before .before .before .before .args .bytes .now)) (c .before .before .loop .failed) (c .before .loop-test .taken)
 
-next-requires : tie.Need-next-requires Inv-loop μ-loop
-next-requires c κs = search needs
-
-answer-requires : tie.Need-answer-requires Inv-loop μ-loop
-answer-requires c κs = search needs
-
 add-i : tie.Need-add-i Inv-loop μ-loop
 add-i c =
     let b = c .before .before .before .before .before .before .before .before in
@@ -52,9 +46,6 @@ loop-again c = c .before .before .before .answer .kept .0 ∙ c .before .before 
 same-length : tie.Need-same-length Inv-loop μ-loop
 same-length c = c .before .loop .inv
 
-returns : tie.Need-returns Inv-loop μ-loop
-returns c = search needs
-
 pub answer-all-spec : {M : Type 1} → statement M
 answer-all-spec =
     tie.close
@@ -63,10 +54,10 @@ answer-all-spec =
     μ-loop
     loop-holds
     shared-slice-read-next
-    next-requires
-    answer-requires
+    (λ c κs. search needs)
+    (λ c κs. search needs)
     add-i
     loop-less
     loop-again
     same-length
-    returns)
+    (λ c. search needs))

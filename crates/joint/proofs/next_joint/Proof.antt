@@ -1,6 +1,6 @@
 -- `joint::next_joint` meets its contract: a channel that stood before adds nothing, another adds its busy generators.
 -- Assumes nothing.
-use Prim.Native.Nat.{_+_, _-_}
+use Prim.Native.Nat.{_+_}
 use mathlib.Core.Path.{sym, _∙_}
 use native.Mathlib.Omega.{arith}
 use lib.ListN.{take}
@@ -9,12 +9,6 @@ use borrow.Author.Needs.{needs}
 use Rattle.joint.proofs.next_joint.Statement.{statement}
 use Rattle.joint.proofs.next_joint.Tie as tie
 
-array-read-c : tie.Need-array-read-c
-array-read-c c = search needs
-
-stands-requires : tie.Need-stands-requires
-stands-requires c κs = search needs
-
 returns : tie.Need-returns
 returns c =
     let s = c .before .before in
@@ -22,12 +16,6 @@ returns c =
     let z = s .good .0 .1 .0 .1 in
     let e = joint-same (a .t1) (a .s) (a .k) (omega arith) (sym (c .before .stands .ensures) ∙ c .if1 .taken) in
     (s .pre .1 ∙ sym e, s .pre .2)
-
-busy-count-requires : tie.Need-busy-count-requires
-busy-count-requires c κs = search needs
-
-add-result : tie.Need-add-result
-add-result c = search needs
 
 returns-2 : tie.Need-returns-2
 returns-2 c =
@@ -41,4 +29,4 @@ returns-2 c =
 pub next-joint-spec : {M : Type 1} → statement M
 next-joint-spec =
     tie.close
-    (tie.spec array-read-c stands-requires returns busy-count-requires add-result returns-2)
+    (tie.spec (λ c. search needs) (λ c κs. search needs) returns (λ c κs. search needs) (λ c. search needs) returns-2)

@@ -27,21 +27,6 @@ loop-holds c = (omega arith, c .good .0 .1 .0 .1, c .good .1 .0 .1 .0 .1, sym (b
 next-joint-requires : tie.Need-next-joint-requires Inv-loop μ-loop
 next-joint-requires c κs = let l = c .before .loop in (c .loop-test .taken, l .inv .3, l .inv .4)
 
-array-read-larger-of : tie.Need-array-read-larger-of Inv-loop μ-loop
-array-read-larger-of c = search needs
-
-larger-of-requires : tie.Need-larger-of-requires Inv-loop μ-loop
-larger-of-requires c κs = search needs
-
-array-write-out : tie.Need-array-write-out Inv-loop μ-loop
-array-write-out c = search needs
-
-add-k : tie.Need-add-k Inv-loop μ-loop
-add-k c = search needs
-
-loop-less : tie.Need-loop-less Inv-loop μ-loop
-loop-less c = search needs
-
 loop-again : tie.Need-loop-again Inv-loop μ-loop
 loop-again c =
     let l = c .before .before .before .loop in
@@ -71,10 +56,10 @@ raise-spec =
     μ-loop
     loop-holds
     next-joint-requires
-    array-read-larger-of
-    larger-of-requires
-    array-write-out
-    add-k
-    loop-less
+    (λ c. search needs)
+    (λ c κs. search needs)
+    (λ c. search needs)
+    (λ c. search needs)
+    (λ c. search needs)
     loop-again
     returns)

@@ -5,12 +5,9 @@ use borrow.Author.Needs.{needs}
 use Rattle.listed.proofs.begin.Statement.{statement}
 use Rattle.listed.proofs.begin.Tie as tie
 
-start-requires : tie.Need-start-requires
-start-requires c κs = search needs
-
 returns : tie.Need-returns
 unfolding newLister
 returns c = simp (c .before .start .ensures)
 
 pub begin-spec : {M : Type 1} → statement M
-begin-spec = tie.close (tie.spec start-requires returns)
+begin-spec = tie.close (tie.spec (λ c κs. search needs) returns)

@@ -5,21 +5,6 @@ use borrow.Author.Needs.{needs}
 use Rattle.listed.proofs.behind_start.Statement.{statement}
 use Rattle.listed.proofs.behind_start.Tie as tie
 
-enum-told : tie.Need-enum-told
-enum-told c = search needs
-
-enum-told-2 : tie.Need-enum-told-2
-enum-told-2 c = search needs
-
-enum-told-3 : tie.Need-enum-told-3
-enum-told-3 c = search needs
-
-enum-told-4 : tie.Need-enum-told-4
-enum-told-4 c = search needs
-
-enum-known-a : tie.Need-enum-known-a
-enum-known-a c = search needs
-
 returns : tie.Need-returns
 unfolding behindStart
 returns c = rw (c .enum-told .given .1)
@@ -44,11 +29,11 @@ pub behind-start-spec : {M : Type 1} → statement M
 behind-start-spec =
     tie.close
     (tie.spec
-    enum-told
-    enum-told-2
-    enum-told-3
-    enum-told-4
-    enum-known-a
+    (λ c. search needs)
+    (λ c. search needs)
+    (λ c. search needs)
+    (λ c. search needs)
+    (λ c. search needs)
     returns
     returns-2
     returns-3

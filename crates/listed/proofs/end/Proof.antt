@@ -7,38 +7,11 @@ use borrow.Author.Needs.{needs}
 use Rattle.listed.proofs.end.Statement.{statement}
 use Rattle.listed.proofs.end.Tie as tie
 
-enum-told : tie.Need-enum-told
-enum-told c = search needs
-
-slice-aggregate-all : tie.Need-slice-aggregate-all
-slice-aggregate-all c = search needs
-
-all-requires : tie.Need-all-requires
-all-requires c κs = search needs
-
-enum-known-awaits : tie.Need-enum-known-awaits
-enum-known-awaits c = search needs
-
-list-start-requires : tie.Need-list-start-requires
-list-start-requires c κs = search needs
-
-enum-told-2 : tie.Need-enum-told-2
-enum-told-2 c = search needs
-
-enum-told-3 : tie.Need-enum-told-3
-enum-told-3 c = search needs
-
-same-length : tie.Need-same-length
-same-length c = search needs
-
 returns : tie.Need-returns
 unfolding endLine
 returns c =
     let e = c .before .before .before .before .before .enum-told .given .1 in
     rw e (rw e at (c .before .before .all .ensures .0 .put))
-
-same-length-2 : tie.Need-same-length-2
-same-length-2 c = search needs
 
 returns-2 : tie.Need-returns-2
 unfolding endLine listedBy line
@@ -56,16 +29,16 @@ pub end-spec : {M : Type 1} → statement M
 end-spec =
     tie.close
     (tie.spec
-    enum-told
-    slice-aggregate-all
-    all-requires
-    enum-known-awaits
-    list-start-requires
-    enum-told-2
-    enum-told-3
-    same-length
+    (λ c. search needs)
+    (λ c. search needs)
+    (λ c κs. search needs)
+    (λ c. search needs)
+    (λ c κs. search needs)
+    (λ c. search needs)
+    (λ c. search needs)
+    (λ c. search needs)
     returns
-    same-length-2
+    (λ c. search needs)
     returns-2
     returns-3
     returns-4)

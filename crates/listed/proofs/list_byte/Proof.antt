@@ -5,18 +5,6 @@ use borrow.Author.Needs.{needs}
 use Rattle.listed.proofs.list_byte.Statement.{statement}
 use Rattle.listed.proofs.list_byte.Tie as tie
 
-byte-requires : tie.Need-byte-requires
-byte-requires c κs = search needs
-
-put-line-requires : tie.Need-put-line-requires
-put-line-requires c κs = search needs
-
-next-requires : tie.Need-next-requires
-next-requires c κs = search needs
-
-same-length : tie.Need-same-length
-same-length c = search needs
-
 returns : tie.Need-returns
 unfolding midiLine afterMidi
 returns c =
@@ -25,4 +13,4 @@ returns c =
 
 pub list-byte-spec : {M : Type 1} → statement M
 list-byte-spec =
-    tie.close (tie.spec byte-requires put-line-requires next-requires same-length returns)
+    tie.close (tie.spec (λ c κs. search needs) (λ c κs. search needs) (λ c κs. search needs) (λ c. search needs) returns)

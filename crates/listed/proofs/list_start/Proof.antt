@@ -7,21 +7,6 @@ use borrow.Author.Needs.{needs}
 use Rattle.listed.proofs.list_start.Statement.{statement}
 use Rattle.listed.proofs.list_start.Tie as tie
 
-start-requires : tie.Need-start-requires
-start-requires c κs = search needs
-
-behind-start-requires : tie.Need-behind-start-requires
-behind-start-requires c κs = search needs
-
-is-refused-requires : tie.Need-is-refused-requires
-is-refused-requires c κs = search needs
-
-put-line-requires : tie.Need-put-line-requires
-put-line-requires c κs = search needs
-
-same-length : tie.Need-same-length
-same-length c = search needs
-
 returns : tie.Need-returns
 unfolding startLine startLister
 returns c =
@@ -44,10 +29,10 @@ pub list-start-spec : {M : Type 1} → statement M
 list-start-spec =
     tie.close
     (tie.spec
-    start-requires
-    behind-start-requires
-    is-refused-requires
-    put-line-requires
-    same-length
+    (λ c κs. search needs)
+    (λ c κs. search needs)
+    (λ c κs. search needs)
+    (λ c κs. search needs)
+    (λ c. search needs)
     returns
     returns-2)

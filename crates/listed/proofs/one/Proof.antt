@@ -7,37 +7,13 @@ use borrow.Author.Needs.{needs}
 use Rattle.listed.proofs.one.Statement.{statement}
 use Rattle.listed.proofs.one.Tie as tie
 
-enum-told : tie.Need-enum-told
-enum-told c = search needs
-
-enum-known-awaits : tie.Need-enum-known-awaits
-enum-known-awaits c = search needs
-
-list-start-requires : tie.Need-list-start-requires
-list-start-requires c κs = search needs
-
-enum-told-2 : tie.Need-enum-told-2
-enum-told-2 c = search needs
-
-list-byte-requires : tie.Need-list-byte-requires
-list-byte-requires c κs = search needs
-
-enum-told-3 : tie.Need-enum-told-3
-enum-told-3 c = search needs
-
 returns : tie.Need-returns
 unfolding line after
 returns c = rw (c .before .enum-told .given .1) (record { kept = refl; put = nothing-put _ _ })
 
-same-length : tie.Need-same-length
-same-length c = search needs
-
 returns-2 : tie.Need-returns-2
 unfolding line after
 returns-2 c = rw (c .before .before .before .before .before .before .awaits .given .1) (c .before .before .list-start .ensures)
-
-same-length-2 : tie.Need-same-length-2
-same-length-2 c = search needs
 
 returns-3 : tie.Need-returns-3
 unfolding line after midiLine afterMidi
@@ -51,15 +27,15 @@ pub one-spec : {M : Type 1} → statement M
 one-spec =
     tie.close
     (tie.spec
-    enum-told
-    enum-known-awaits
-    list-start-requires
-    enum-told-2
-    list-byte-requires
-    enum-told-3
+    (λ c. search needs)
+    (λ c. search needs)
+    (λ c κs. search needs)
+    (λ c. search needs)
+    (λ c κs. search needs)
+    (λ c. search needs)
     returns
-    same-length
+    (λ c. search needs)
     returns-2
-    same-length-2
+    (λ c. search needs)
     returns-3
     returns-4)

@@ -6,21 +6,6 @@ use borrow.Author.Needs.{needs}
 use Rattle.log.proofs.one_digit.Statement.{statement}
 use Rattle.log.proofs.one_digit.Tie as tie
 
-is-digit-requires : tie.Need-is-digit-requires
-is-digit-requires c κs = search needs
-
-is-right-requires : tie.Need-is-right-requires
-is-right-requires c κs = search needs
-
-less-requires : tie.Need-less-requires
-less-requires c κs = search needs
-
-wide-requires : tie.Need-wide-requires
-wide-requires c κs = search needs
-
-event-by-requires : tie.Need-event-by-requires
-event-by-requires c κs = search needs
-
 returns : tie.Need-returns
 unfolding parse
 returns c =
@@ -35,10 +20,10 @@ pub one-digit-spec : {M : Type 1} → statement M
 one-digit-spec =
     tie.close
     (tie.spec
-    is-digit-requires
-    is-right-requires
-    less-requires
-    wide-requires
-    event-by-requires
+    (λ c κs. search needs)
+    (λ c κs. search needs)
+    (λ c κs. search needs)
+    (λ c κs. search needs)
+    (λ c κs. search needs)
     returns
     returns-2)

@@ -6,36 +6,6 @@ use borrow.Author.Needs.{needs}
 use Rattle.log.proofs.two_digits.Statement.{statement}
 use Rattle.log.proofs.two_digits.Tie as tie
 
-is-digit-requires : tie.Need-is-digit-requires
-is-digit-requires c κs = search needs
-
-is-digit-requires-2 : tie.Need-is-digit-requires-2
-is-digit-requires-2 c κs = search needs
-
-is-right-requires : tie.Need-is-right-requires
-is-right-requires c κs = search needs
-
-less-requires : tie.Need-less-requires
-less-requires c κs = search needs
-
-wide-requires : tie.Need-wide-requires
-wide-requires c κs = search needs
-
-mul-event-by : tie.Need-mul-event-by
-mul-event-by c = search needs
-
-less-requires-2 : tie.Need-less-requires-2
-less-requires-2 c κs = search needs
-
-wide-requires-2 : tie.Need-wide-requires-2
-wide-requires-2 c κs = search needs
-
-add-event-by : tie.Need-add-event-by
-add-event-by c = search needs
-
-event-by-requires : tie.Need-event-by-requires
-event-by-requires c κs = search needs
-
 returns : tie.Need-returns
 unfolding parse
 returns c =
@@ -58,15 +28,15 @@ pub two-digits-spec : {M : Type 1} → statement M
 two-digits-spec =
     tie.close
     (tie.spec
-    is-digit-requires
-    is-digit-requires-2
-    is-right-requires
-    less-requires
-    wide-requires
-    mul-event-by
-    less-requires-2
-    wide-requires-2
-    add-event-by
-    event-by-requires
+    (λ c κs. search needs)
+    (λ c κs. search needs)
+    (λ c κs. search needs)
+    (λ c κs. search needs)
+    (λ c κs. search needs)
+    (λ c. search needs)
+    (λ c κs. search needs)
+    (λ c κs. search needs)
+    (λ c. search needs)
+    (λ c κs. search needs)
     returns
     returns-2)

@@ -21,41 +21,11 @@ Inv-loop c bytes ordered order₀ i₀ order i = (i ≤ length bytes) × (bytesR
 abbrev μ-loop : tie.MeasureT-loop
 μ-loop c bytes ordered order₀ i₀ order i = length bytes - i
 
-take-requires : tie.Need-take-requires Inv-loop μ-loop
-take-requires c κs = search needs
-
-in-log-requires : tie.Need-in-log-requires Inv-loop μ-loop
-in-log-requires c κs = search needs
-
 returns : tie.Need-returns Inv-loop μ-loop
 returns c = c .in-log .ensures ∙ ap (reading true _) (c .before .take .ensures) ∙ sym (in-log _ _ (c .before .before .if1 .taken))
 
 loop-holds : tie.Need-loop-holds Inv-loop μ-loop
 loop-holds c = (omega arith, refl)
-
-shared-slice-read-b : tie.Need-shared-slice-read-b Inv-loop μ-loop
-shared-slice-read-b c = search needs
-
-add-i : tie.Need-add-i Inv-loop μ-loop
-add-i c = search needs
-
-begin-log-requires : tie.Need-begin-log-requires Inv-loop μ-loop
-begin-log-requires c κs = search needs
-
-sub-take : tie.Need-sub-take Inv-loop μ-loop
-sub-take c = search needs
-
-part-take-start : tie.Need-part-take-start Inv-loop μ-loop
-part-take-start c = search needs
-
-part-take-end : tie.Need-part-take-end Inv-loop μ-loop
-part-take-end c = search needs
-
-take-requires-2 : tie.Need-take-requires-2 Inv-loop μ-loop
-take-requires-2 c κs = search needs
-
-in-log-requires-2 : tie.Need-in-log-requires-2 Inv-loop μ-loop
-in-log-requires-2 c κs = search needs
 
 returns-2 : tie.Need-returns-2 Inv-loop μ-loop
 returns-2 c =
@@ -68,12 +38,6 @@ returns-2 c =
     ∙ sym (at-end (a .bytes .now) (l .i) h (l .order) (a .c .run) (t .if2 .taken))
     ∙ l .inv .1
     ∙ sym (in-order (a .c) (a .bytes .now) (t .before .before .before .before .before .if1 .left))
-
-next-requires : tie.Need-next-requires Inv-loop μ-loop
-next-requires c κs = search needs
-
-loop-less : tie.Need-loop-less Inv-loop μ-loop
-loop-less c = search needs
 
 loop-again : tie.Need-loop-again Inv-loop μ-loop
 loop-again c =
@@ -93,4 +57,4 @@ returns-3 c =
     ap (λ (x : Bool). reading x (l .order) (a .c .run)) e ∙ sym (no-more (a .bytes .now) (l .i) (reading false (l .order) (a .c .run)) (c .loop-test .left)) ∙ l .inv .1 ∙ sym (in-order (a .c) (a .bytes .now) e)
 
 pub all-spec : {M : Type 1} → statement M
-all-spec = tie.close (tie.spec Inv-loop μ-loop take-requires in-log-requires returns loop-holds shared-slice-read-b add-i begin-log-requires sub-take part-take-start part-take-end take-requires-2 in-log-requires-2 returns-2 next-requires loop-less loop-again returns-3)
+all-spec = tie.close (tie.spec Inv-loop μ-loop (λ c κs. search needs) (λ c κs. search needs) returns loop-holds (λ c. search needs) (λ c. search needs) (λ c κs. search needs) (λ c. search needs) (λ c. search needs) (λ c. search needs) (λ c κs. search needs) (λ c κs. search needs) returns-2 (λ c κs. search needs) (λ c. search needs) loop-again returns-3)

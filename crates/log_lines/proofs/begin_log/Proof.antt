@@ -19,12 +19,6 @@ looked : (c r : OrderLine) (n : ℕ) → r ≡ putAway c → n ≡ usable (r .co
 unfolding orderIn
 looked c r n e f = rw (f, e)
 
-put-away-requires : tie.Need-put-away-requires
-put-away-requires c κs = search needs
-
-usable-requires : tie.Need-usable-requires
-usable-requires c κs = search needs
-
 array-share-prefix-channels : tie.Need-array-share-prefix-channels
 array-share-prefix-channels c =
     let p = c .before .before in
@@ -40,13 +34,10 @@ slice-aggregate-begin c =
     let k = length-take (c .before .usable .result) (p .put-away .result .channels) in
     omega arith
 
-begin-requires : tie.Need-begin-requires
-begin-requires c κs = search needs
-
 returns : tie.Need-returns
 returns c =
     let p = c .before .before .before .before in
     c .begin .ensures ∙ ap begun (looked (p .before .args .c) (p .put-away .result) (c .before .before .usable .result) (p .put-away .ensures) (c .before .before .usable .ensures .0))
 
 pub begin-log-spec : {M : Type 1} → statement M
-begin-log-spec = tie.close (tie.spec put-away-requires usable-requires array-share-prefix-channels slice-aggregate-begin begin-requires returns)
+begin-log-spec = tie.close (tie.spec (λ c κs. search needs) (λ c κs. search needs) array-share-prefix-channels slice-aggregate-begin (λ c κs. search needs) returns)

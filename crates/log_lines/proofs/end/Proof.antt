@@ -5,22 +5,13 @@ use borrow.Author.Needs.{needs}
 use Rattle.log_lines.proofs.end.Statement.{statement}
 use Rattle.log_lines.proofs.end.Tie as tie
 
-end-requires : tie.Need-end-requires
-end-requires c κs = search needs
-
 returns : tie.Need-returns
 unfolding ended
 returns c = rw (c .before .if1 .taken) (c .end .ensures)
-
-begin-log-requires : tie.Need-begin-log-requires
-begin-log-requires c κs = search needs
-
-end-requires-2 : tie.Need-end-requires-2
-end-requires-2 c κs = search needs
 
 returns-2 : tie.Need-returns-2
 unfolding ended
 returns-2 c = rw (c .before .before .if1 .left, ← c .before .begin-log .ensures) (c .end2 .ensures)
 
 pub end-spec : {M : Type 1} → statement M
-end-spec = tie.close (tie.spec end-requires returns begin-log-requires end-requires-2 returns-2)
+end-spec = tie.close (tie.spec (λ c κs. search needs) returns (λ c κs. search needs) (λ c κs. search needs) returns-2)

@@ -8,11 +8,8 @@ use borrow.Author.Needs.{needs}
 use Rattle.log_lines.proofs.lose.Statement.{statement}
 use Rattle.log_lines.proofs.lose.Tie as tie
 
-begin-requires : tie.Need-begin-requires
-begin-requires c κs = search needs
-
 returns : tie.Need-returns
 returns c = ap (λ (l : Line). orderLine l 17 (replicate 16 0)) (c .begin .ensures)
 
 pub lose-spec : {M : Type 1} → statement M
-lose-spec = tie.close (tie.spec begin-requires returns)
+lose-spec = tie.close (tie.spec (λ c κs. search needs) returns)

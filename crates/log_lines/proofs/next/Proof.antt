@@ -6,19 +6,13 @@ use borrow.Author.Needs.{needs}
 use Rattle.log_lines.proofs.next.Statement.{statement}
 use Rattle.log_lines.proofs.next.Tie as tie
 
-put-away-requires : tie.Need-put-away-requires
-put-away-requires c κs = search needs
-
 returns : tie.Need-returns
 unfolding orderByte
 returns c = rw (eq-eqb _ _ (c .before .if1 .taken)) (c .put-away .ensures)
-
-read-requires : tie.Need-read-requires
-read-requires c κs = search needs
 
 returns-2 : tie.Need-returns-2
 unfolding orderByte
 returns-2 c = rw (ne-eqb _ _ (c .before .before .if1 .left), c .before .read .ensures)
 
 pub next-spec : {M : Type 1} → statement M
-next-spec = tie.close (tie.spec put-away-requires returns read-requires returns-2)
+next-spec = tie.close (tie.spec (λ c κs. search needs) returns (λ c κs. search needs) returns-2)

@@ -6,21 +6,6 @@ use borrow.Author.Needs.{needs}
 use Rattle.log_lines.proofs.put_away.Statement.{statement}
 use Rattle.log_lines.proofs.put_away.Tie as tie
 
-cast-at : tie.Need-cast-at
-cast-at c = search needs
-
-begin-requires : tie.Need-begin-requires
-begin-requires c κs = search needs
-
-cast-at-most : tie.Need-cast-at-most
-cast-at-most c = search needs
-
-at-most-requires : tie.Need-at-most-requires
-at-most-requires c κs = search needs
-
-cast-channels : tie.Need-cast-channels
-cast-channels c = search needs
-
 array-write-channels : tie.Need-array-write-channels
 array-write-channels c = has-place (c .before .before .before .before .before .before .before .before .before .args .c) (c .before .before .before .before .if1 .taken)
 
@@ -33,12 +18,9 @@ returns : tie.Need-returns
 unfolding putAway
 returns c = rw (c .before .before .before .before .before .if1 .taken, c .before .before .before .before .begin .ensures, c .before .at-most .ensures .0)
 
-lose-requires : tie.Need-lose-requires
-lose-requires c κs = search needs
-
 returns-2 : tie.Need-returns-2
 unfolding putAway
 returns-2 c = rw (c .before .if1 .left) (c .lose .ensures)
 
 pub put-away-spec : {M : Type 1} → statement M
-put-away-spec = tie.close (tie.spec cast-at begin-requires cast-at-most at-most-requires cast-channels array-write-channels add-t12 returns lose-requires returns-2)
+put-away-spec = tie.close (tie.spec (λ c. search needs) (λ c κs. search needs) (λ c. search needs) (λ c κs. search needs) (λ c. search needs) array-write-channels add-t12 returns (λ c κs. search needs) returns-2)

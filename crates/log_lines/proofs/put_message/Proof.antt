@@ -15,15 +15,6 @@ returns : tie.Need-returns
 unfolding messageOf
 returns c = rw (ne-eqb _ _ (c .if1 .taken)) (nothing-put _ _, λ h. refl)
 
-slice-aggregate-put : tie.Need-slice-aggregate-put
-slice-aggregate-put c = search needs
-
-put-requires : tie.Need-put-requires
-put-requires c κs = search needs
-
-same-length : tie.Need-same-length
-same-length c = search needs
-
 returns-2 : tie.Need-returns-2
 unfolding messageOf
 returns-2 c =
@@ -33,4 +24,4 @@ returns-2 c =
     rw (eq-eqb _ _ (c .before .before .before .before .before .before .if1 .left)) (p, λ h. stands-whole 38 _ (omega arith) _ p h)
 
 pub put-message-spec : {M : Type 1} → statement M
-put-message-spec = tie.close (tie.spec returns slice-aggregate-put put-requires same-length returns-2)
+put-message-spec = tie.close (tie.spec returns (λ c. search needs) (λ c κs. search needs) (λ c. search needs) returns-2)

@@ -7,26 +7,14 @@ use borrow.Author.Needs.{needs}
 use Rattle.order.proofs.read.Statement.{statement}
 use Rattle.order.proofs.read.Tie as tie
 
-none-requires : tie.Need-none-requires
-none-requires c κs = search needs
-
 returns : tie.Need-returns
 unfolding orderOf isOrder
 returns c = simp (ne-eqb _ _ (c .before .if1 .taken), c .none .ensures)
-
-copy-requires : tie.Need-copy-requires
-copy-requires c κs = search needs
-
-all-once-requires : tie.Need-all-once-requires
-all-once-requires c κs = search needs
 
 returns-2 : tie.Need-returns-2
 unfolding orderOf isOrder
 returns-2 c =
     simp (eq-eqb _ _ (c .before .before .before .if1 .left), rw (c .before .before .copy .ensures) at (sym (c .before .all-once .ensures) ∙ c .if2 .taken), c .before .before .copy .ensures)
-
-none-requires-2 : tie.Need-none-requires-2
-none-requires-2 c κs = search needs
 
 returns-3 : tie.Need-returns-3
 unfolding orderOf isOrder
@@ -38,10 +26,10 @@ pub read-spec : {M : Type 1} → statement M
 read-spec =
     tie.close
     (tie.spec
-    none-requires
+    (λ c κs. search needs)
     returns
-    copy-requires
-    all-once-requires
+    (λ c κs. search needs)
+    (λ c κs. search needs)
     returns-2
-    none-requires-2
+    (λ c κs. search needs)
     returns-3)

@@ -4,14 +4,5 @@ use borrow.Author.Needs.{needs}
 use Rattle.page_lines.proofs.all.Statement.{statement}
 use Rattle.page_lines.proofs.all.Tie as tie
 
-slice-aggregate-all : tie.Need-slice-aggregate-all
-slice-aggregate-all c = search needs
-
-all-requires : tie.Need-all-requires
-all-requires c κs = search needs
-
-returns : tie.Need-returns
-returns c = search needs
-
 pub all-spec : {M : Type 1} → statement M
-all-spec = tie.close (tie.spec slice-aggregate-all all-requires returns)
+all-spec = tie.close (tie.spec (λ c. search needs) (λ c κs. search needs) (λ c. search needs))

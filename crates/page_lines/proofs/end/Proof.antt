@@ -6,30 +6,6 @@ use borrow.Author.Needs.{needs}
 use Rattle.page_lines.proofs.end.Statement.{statement}
 use Rattle.page_lines.proofs.end.Tie as tie
 
-enum-told : tie.Need-enum-told
-enum-told c = search needs
-
-slice-aggregate-all : tie.Need-slice-aggregate-all
-slice-aggregate-all c = search needs
-
-all-requires : tie.Need-all-requires
-all-requires c κs = search needs
-
-enum-told-2 : tie.Need-enum-told-2
-enum-told-2 c = search needs
-
-slice-aggregate-all-2 : tie.Need-slice-aggregate-all-2
-slice-aggregate-all-2 c = search needs
-
-all-requires-2 : tie.Need-all-requires-2
-all-requires-2 c κs = search needs
-
-enum-told-3 : tie.Need-enum-told-3
-enum-told-3 c = search needs
-
-enum-told-4 : tie.Need-enum-told-4
-enum-told-4 c = search needs
-
 returns : tie.Need-returns
 unfolding ended
 returns c =
@@ -54,14 +30,14 @@ pub end-spec : {M : Type 1} → statement M
 end-spec =
     tie.close
     (tie.spec
-    enum-told
-    slice-aggregate-all
-    all-requires
-    enum-told-2
-    slice-aggregate-all-2
-    all-requires-2
-    enum-told-3
-    enum-told-4
+    (λ c. search needs)
+    (λ c. search needs)
+    (λ c κs. search needs)
+    (λ c. search needs)
+    (λ c. search needs)
+    (λ c κs. search needs)
+    (λ c. search needs)
+    (λ c. search needs)
     returns
     returns-2
     returns-3

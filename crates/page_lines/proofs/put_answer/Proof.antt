@@ -7,24 +7,6 @@ use borrow.Author.Needs.{needs}
 use Rattle.page_lines.proofs.put_answer.Statement.{statement}
 use Rattle.page_lines.proofs.put_answer.Tie as tie
 
-enum-told : tie.Need-enum-told
-enum-told c = search needs
-
-enum-told-2 : tie.Need-enum-told-2
-enum-told-2 c = search needs
-
-enum-told-3 : tie.Need-enum-told-3
-enum-told-3 c = search needs
-
-put-page-requires : tie.Need-put-page-requires
-put-page-requires c κs = search needs
-
-enum-known-awaits : tie.Need-enum-known-awaits
-enum-known-awaits c = search needs
-
-put-refused-requires : tie.Need-put-refused-requires
-put-refused-requires c κs = search needs
-
 returns : tie.Need-returns
 unfolding answerText
 returns c = rw (c .enum-told .given .1) ((refl, refl), λ h. refl)
@@ -33,17 +15,11 @@ returns-2 : tie.Need-returns-2
 unfolding answerText
 returns-2 c = rw (c .enum-told2 .given .1) ((refl, refl), λ h. refl)
 
-same-length : tie.Need-same-length
-same-length c = search needs
-
 returns-3 : tie.Need-returns-3
 unfolding answerText
 returns-3 c =
     let w = c .before .before .put-page .ensures in
     rw (c .before .before .before .before .enum-told3 .given .1) (w, λ h. page-whole _ _ _ _ (w .0) (w .1) h)
-
-same-length-2 : tie.Need-same-length-2
-same-length-2 c = search needs
 
 returns-4 : tie.Need-returns-4
 unfolding answerText
@@ -55,15 +31,15 @@ pub put-answer-spec : {M : Type 1} → statement M
 put-answer-spec =
     tie.close
     (tie.spec
-    enum-told
-    enum-told-2
-    enum-told-3
-    put-page-requires
-    enum-known-awaits
-    put-refused-requires
+    (λ c. search needs)
+    (λ c. search needs)
+    (λ c. search needs)
+    (λ c κs. search needs)
+    (λ c. search needs)
+    (λ c κs. search needs)
     returns
     returns-2
-    same-length
+    (λ c. search needs)
     returns-3
-    same-length-2
+    (λ c. search needs)
     returns-4)

@@ -6,25 +6,10 @@ use borrow.Author.Needs.{needs}
 use Rattle.page_lines.proofs.put_page.Statement.{statement}
 use Rattle.page_lines.proofs.put_page.Tie as tie
 
-write-page-requires : tie.Need-write-page-requires
-write-page-requires c κs = search needs
-
-enum-told : tie.Need-enum-told
-enum-told c = search needs
-
-enum-told-2 : tie.Need-enum-told-2
-enum-told-2 c = search needs
-
-same-length : tie.Need-same-length
-same-length c = search needs
-
 returns : tie.Need-returns
 returns c =
     let w = c .before .before .before .before .write-page .ensures in
     (room-of-written _ (sym (c .enum-told .given .1) ∙ w .0), w .1)
-
-same-length-2 : tie.Need-same-length-2
-same-length-2 c = search needs
 
 returns-2 : tie.Need-returns-2
 returns-2 c =
@@ -35,10 +20,10 @@ pub put-page-spec : {M : Type 1} → statement M
 put-page-spec =
     tie.close
     (tie.spec
-    write-page-requires
-    enum-told
-    enum-told-2
-    same-length
+    (λ c κs. search needs)
+    (λ c. search needs)
+    (λ c. search needs)
+    (λ c. search needs)
     returns
-    same-length-2
+    (λ c. search needs)
     returns-2)

@@ -10,15 +10,9 @@ returns : tie.Need-returns
 unfolding endAnswerBy
 returns c = rw (c .if1 .taken) (nothing-put _ _)
 
-put-answer-requires : tie.Need-put-answer-requires
-put-answer-requires c κs = search needs
-
-same-length : tie.Need-same-length
-same-length c = search needs
-
 returns-2 : tie.Need-returns-2
 unfolding endAnswerBy
 returns-2 c = rw (c .before .before .before .before .if1 .left) (c .before .before .put-answer .ensures)
 
 pub end-spec : {M : Type 1} → statement M
-end-spec = tie.close (tie.spec returns put-answer-requires same-length returns-2)
+end-spec = tie.close (tie.spec returns (λ c κs. search needs) (λ c. search needs) returns-2)

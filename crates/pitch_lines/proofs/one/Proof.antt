@@ -8,21 +8,9 @@ use borrow.Author.Needs.{needs}
 use Rattle.pitch_lines.proofs.one.Statement.{statement}
 use Rattle.pitch_lines.proofs.one.Tie as tie
 
-put-answer-requires : tie.Need-put-answer-requires
-put-answer-requires c κs = search needs
-
-begin-requires : tie.Need-begin-requires
-begin-requires c κs = search needs
-
-same-length : tie.Need-same-length
-same-length c = search needs
-
 returns : tie.Need-returns
 unfolding answerBy after
 returns c = rw (eq-eqb _ _ (c .before .before .before .before .before .before .if1 .taken)) (record { kept = c .begin .ensures; put = c .before .before .before .put-answer .ensures })
-
-read-requires : tie.Need-read-requires
-read-requires c κs = search needs
 
 returns-2 : tie.Need-returns-2
 unfolding answerBy after
@@ -31,4 +19,4 @@ returns-2 c = rw (ne-eqb _ _ (c .before .if1 .left)) (record { kept = c .read .e
 pub one-spec : {M : Type 1} → statement M
 one-spec =
     tie.close
-    (tie.spec put-answer-requires begin-requires same-length returns read-requires returns-2)
+    (tie.spec (λ c κs. search needs) (λ c κs. search needs) (λ c. search needs) returns (λ c κs. search needs) returns-2)

@@ -52,12 +52,6 @@ plain : (z : ℤ) → SFits w8 z → ltZ (seen z) (pos 0) ≡ false → Plain z
 plain (pos n) f t = record { n = n; is = refl; seen-is = toZ-ofZ {w = w8} {z = pos n} f; small = f .sfits }
 plain (negsuc n) f t = absurd (subst T (rw (toZ-ofZ {w = w8} {z = negsuc n} f) at t) tt)
 
-slice-aggregate-put : tie.Need-slice-aggregate-put
-slice-aggregate-put c = search needs
-
-put-requires : tie.Need-put-requires
-put-requires c κs = search needs
-
 sub-put-number : tie.Need-sub-put-number
 sub-put-number c = negative _ (c .before .before .before .before .before .before .before .before .fits .octave) (c .before .before .before .before .before .before .if1 .taken) .fits
 
@@ -73,12 +67,6 @@ add-put-number c =
     let h = m .small in
     rw (m .rest-is) (record { fits = omega arith })
 
-put-number-requires : tie.Need-put-number-requires
-put-number-requires c κs = search needs
-
-same-length : tie.Need-same-length
-same-length c = search needs
-
 returns : tie.Need-returns
 returns c =
     let b = c .before .before .before .before .before .before .before .before .before in
@@ -86,23 +74,11 @@ returns c =
     let d = rw (m .rest-is, add-one (m .n)) at (c .before .before .put-number .ensures) in
     rw (m .is) (joined (c .before .before .before .before .before .before .put .ensures) d)
 
-slice-aggregate-put-2 : tie.Need-slice-aggregate-put-2
-slice-aggregate-put-2 c = search needs
-
-put-requires-2 : tie.Need-put-requires-2
-put-requires-2 c κs = search needs
-
 cast-put-number-2 : tie.Need-cast-put-number-2
 cast-put-number-2 c =
     let m = plain _ (c .before .before .before .before .before .before .before .before .fits .octave) (c .before .before .before .before .before .before .if1 .left) in
     let h = m .small in
     rw (m .seen-is) (tt, record { fits = omega arith })
-
-put-number-requires-2 : tie.Need-put-number-requires-2
-put-number-requires-2 c κs = search needs
-
-same-length-2 : tie.Need-same-length-2
-same-length-2 c = search needs
 
 returns-2 : tie.Need-returns-2
 returns-2 c =
@@ -115,17 +91,17 @@ pub put-octave-spec : {M : Type 1} → statement M
 put-octave-spec =
     tie.close
     (tie.spec
-    slice-aggregate-put
-    put-requires
+    (λ c. search needs)
+    (λ c κs. search needs)
     sub-put-number
     cast-put-number
     add-put-number
-    put-number-requires
-    same-length
+    (λ c κs. search needs)
+    (λ c. search needs)
     returns
-    slice-aggregate-put-2
-    put-requires-2
+    (λ c. search needs)
+    (λ c κs. search needs)
     cast-put-number-2
-    put-number-requires-2
-    same-length-2
+    (λ c κs. search needs)
+    (λ c. search needs)
     returns-2)

@@ -8,30 +8,6 @@ use borrow.Author.Needs.{needs}
 use Rattle.pitch_lines.proofs.put_pitch.Statement.{statement}
 use Rattle.pitch_lines.proofs.put_pitch.Tie as tie
 
-put-octave-requires : tie.Need-put-octave-requires
-put-octave-requires c κs = search needs
-
-slice-aggregate-put : tie.Need-slice-aggregate-put
-slice-aggregate-put c = search needs
-
-put-requires : tie.Need-put-requires
-put-requires c κs = search needs
-
-cast-put-number : tie.Need-cast-put-number
-cast-put-number c = search needs
-
-put-number-requires : tie.Need-put-number-requires
-put-number-requires c κs = search needs
-
-slice-aggregate-put-2 : tie.Need-slice-aggregate-put-2
-slice-aggregate-put-2 c = search needs
-
-put-requires-2 : tie.Need-put-requires-2
-put-requires-2 c κs = search needs
-
-same-length : tie.Need-same-length
-same-length c = search needs
-
 returns : tie.Need-returns
 unfolding pitchFields
 returns c =
@@ -45,12 +21,12 @@ pub put-pitch-spec : {M : Type 1} → statement M
 put-pitch-spec =
     tie.close
     (tie.spec
-    put-octave-requires
-    slice-aggregate-put
-    put-requires
-    cast-put-number
-    put-number-requires
-    slice-aggregate-put-2
-    put-requires-2
-    same-length
+    (λ c κs. search needs)
+    (λ c. search needs)
+    (λ c κs. search needs)
+    (λ c. search needs)
+    (λ c κs. search needs)
+    (λ c. search needs)
+    (λ c κs. search needs)
+    (λ c. search needs)
     returns)

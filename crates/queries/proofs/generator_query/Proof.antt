@@ -10,19 +10,10 @@ returns : tie.Need-returns
 unfolding generatorQuery
 returns c = simp (le-leb _ _ (c .if1 .taken))
 
-element-requires : tie.Need-element-requires
-element-requires c κs = search needs
-
-element-requires-2 : tie.Need-element-requires-2
-element-requires-2 c κs = search needs
-
-element-requires-3 : tie.Need-element-requires-3
-element-requires-3 c κs = search needs
-
 returns-2 : tie.Need-returns-2
 unfolding generatorQuery
 returns-2 c = simp (lt-leb _ _ (c .before .before .before .before .before .before .before .if1 .left), c .element3 .ensures, c .before .element2 .ensures, c .before .before .element .ensures)
 
 pub generator-query-spec : {M : Type 1} → statement M
 generator-query-spec =
-    tie.close (tie.spec returns element-requires element-requires-2 element-requires-3 returns-2)
+    tie.close (tie.spec returns (λ c κs. search needs) (λ c κs. search needs) (λ c κs. search needs) returns-2)

@@ -15,12 +15,6 @@ by-mask : (s : Share) → maskAnswer s ≡ (if isMasked s then IsMasked else IsU
 by-mask Masked = refl
 by-mask (Units n) = refl
 
-is-channel-requires : tie.Need-is-channel-requires
-is-channel-requires c κs = search needs
-
-masks-requires : tie.Need-masks-requires
-masks-requires c κs = search needs
-
 returns : tie.Need-returns
 unfolding maskQuery
 returns c =
@@ -40,4 +34,4 @@ returns-3 c = simp (sym (c .before .is-channel .ensures) ∙ c .if1 .left)
 pub mask-query-spec : {M : Type 1} → statement M
 mask-query-spec =
     tie.close
-    (tie.spec is-channel-requires masks-requires returns returns-2 returns-3)
+    (tie.spec (λ c κs. search needs) (λ c κs. search needs) returns returns-2 returns-3)

@@ -6,18 +6,6 @@ use Rattle.queries.specs.Queries.{shareQuery}
 use Rattle.queries.proofs.share_query.Statement.{statement}
 use Rattle.queries.proofs.share_query.Tie as tie
 
-is-channel-requires : tie.Need-is-channel-requires
-is-channel-requires c κs = search needs
-
-share-of-requires : tie.Need-share-of-requires
-share-of-requires c κs = search needs
-
-enum-told : tie.Need-enum-told
-enum-told c = search needs
-
-enum-known-n : tie.Need-enum-known-n
-enum-known-n c = search needs
-
 returns : tie.Need-returns
 unfolding shareQuery
 returns c =
@@ -40,10 +28,10 @@ pub share-query-spec : {M : Type 1} → statement M
 share-query-spec =
     tie.close
     (tie.spec
-    is-channel-requires
-    share-of-requires
-    enum-told
-    enum-known-n
+    (λ c κs. search needs)
+    (λ c κs. search needs)
+    (λ c. search needs)
+    (λ c. search needs)
     returns
     returns-2
     returns-3)

@@ -19,18 +19,6 @@ abbrev μ-loop : tie.MeasureT-loop
 loop-holds : tie.Need-loop-holds Inv-loop μ-loop
 loop-holds c = (omega arith, none-counted (c .before .before .args .s .state) (c .before .before .args .s .channel))
 
-array-read-c : tie.Need-array-read-c Inv-loop μ-loop
-array-read-c c = search needs
-
-array-read-is-counted : tie.Need-array-read-is-counted Inv-loop μ-loop
-array-read-is-counted c = search needs
-
-is-counted-requires : tie.Need-is-counted-requires Inv-loop μ-loop
-is-counted-requires c κs = search needs
-
-cast-at : tie.Need-cast-at Inv-loop μ-loop
-cast-at c = search needs
-
 -- in the branch the generator is counted, so that its channel has a place
 place : (c : tie.Then1 Inv-loop μ-loop) → getD (c .before .before .before .before .before .before .args .s .channel) (c .before .before .before .loop .g) 0 < 17
 place c = counted-small (getD (c .before .before .before .before .before .before .args .s .state) (c .before .before .before .loop .g) 0) _ (sym (c .before .is-counted .ensures) ∙ c .if1 .taken)
@@ -49,12 +37,6 @@ add-out c =
 
 array-write-out : tie.Need-array-write-out Inv-loop μ-loop
 array-write-out c = place c
-
-add-g : tie.Need-add-g Inv-loop μ-loop
-add-g c = search needs
-
-loop-less : tie.Need-loop-less Inv-loop μ-loop
-loop-less c = search needs
 
 loop-again : tie.Need-loop-again Inv-loop μ-loop
 loop-again c =
@@ -79,14 +61,14 @@ busy-counts-spec =
     Inv-loop
     μ-loop
     loop-holds
-    array-read-c
-    array-read-is-counted
-    is-counted-requires
-    cast-at
+    (λ c. search needs)
+    (λ c. search needs)
+    (λ c κs. search needs)
+    (λ c. search needs)
     array-read-out
     add-out
     array-write-out
-    add-g
-    loop-less
+    (λ c. search needs)
+    (λ c. search needs)
     loop-again
     returns)

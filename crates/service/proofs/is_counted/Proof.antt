@@ -5,11 +5,8 @@ use borrow.Author.Needs.{needs}
 use Rattle.service.proofs.is_counted.Statement.{statement}
 use Rattle.service.proofs.is_counted.Tie as tie
 
-is-busy-requires : tie.Need-is-busy-requires
-is-busy-requires c κs = search needs
-
 returns : tie.Need-returns
 returns c = rw (c .is-busy .ensures) refl
 
 pub is-counted-spec : {M : Type 1} → statement M
-is-counted-spec = tie.close (tie.spec is-busy-requires returns)
+is-counted-spec = tie.close (tie.spec (λ c κs. search needs) returns)

@@ -4,17 +4,5 @@ use borrow.Author.Needs.{needs}
 use Rattle.service.proofs.mark_of.Statement.{statement}
 use Rattle.service.proofs.mark_of.Tie as tie
 
-enum-told : tie.Need-enum-told
-enum-told c = search needs
-
-enum-told-2 : tie.Need-enum-told-2
-enum-told-2 c = search needs
-
-returns : tie.Need-returns
-returns c = search needs
-
-returns-2 : tie.Need-returns-2
-returns-2 c = search needs
-
 pub mark-of-spec : {M : Type 1} → statement M
-mark-of-spec = tie.close (tie.spec enum-told enum-told-2 returns returns-2)
+mark-of-spec = tie.close (tie.spec (λ c. search needs) (λ c. search needs) (λ c. search needs) (λ c. search needs))

@@ -19,12 +19,6 @@ abbrev μ-loop : tie.MeasureT-loop
 loop-holds : tie.Need-loop-holds Inv-loop μ-loop
 loop-holds c = (omega arith, c .pre, search needs, paste-zero (c .args .page .now) (c .args .at) (c .args .t3))
 
-array-read-page : tie.Need-array-read-page Inv-loop μ-loop
-array-read-page c = search needs
-
-add-page : tie.Need-add-page Inv-loop μ-loop
-add-page c = search needs
-
 slice-write-page : tie.Need-slice-write-page Inv-loop μ-loop
 slice-write-page c =
     let l = c .before .loop in
@@ -33,12 +27,6 @@ slice-write-page c =
     let a = c .before .before .args in
     let n = length-paste (a .page .now) (a .at) (a .t3) (l .i) (omega arith) (omega arith) in
     rw (i .3, n) (omega arith)
-
-add-i : tie.Need-add-i Inv-loop μ-loop
-add-i c = search needs
-
-loop-less : tie.Need-loop-less Inv-loop μ-loop
-loop-less c = search needs
 
 loop-again : tie.Need-loop-again Inv-loop μ-loop
 loop-again c =
@@ -70,11 +58,11 @@ put-spec =
     Inv-loop
     μ-loop
     loop-holds
-    array-read-page
-    add-page
+    (λ c. search needs)
+    (λ c. search needs)
     slice-write-page
-    add-i
-    loop-less
+    (λ c. search needs)
+    (λ c. search needs)
     loop-again
     same-length
     returns)

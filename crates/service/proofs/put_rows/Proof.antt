@@ -23,21 +23,6 @@ loop-holds c =
     let a = c .before .args in
     (omega arith, c .before .pre, first-rows (entriesOf (a .t)) (a .p) (λ n. getD (a .t4) n 0) (a .page .now) (c .before .pre))
 
-add-c : tie.Need-add-c Inv-loop μ-loop
-add-c c = search needs
-
-mul-put : tie.Need-mul-put Inv-loop μ-loop
-mul-put c = search needs
-
-cast-line : tie.Need-cast-line Inv-loop μ-loop
-cast-line c = search needs
-
-array-read-line : tie.Need-array-read-line Inv-loop μ-loop
-array-read-line c = search needs
-
-line-requires : tie.Need-line-requires Inv-loop μ-loop
-line-requires c κs = search needs
-
 put-requires : tie.Need-put-requires Inv-loop μ-loop
 put-requires c κs =
     let l = c .before .before .before .loop in
@@ -45,9 +30,6 @@ put-requires c κs =
     let t = c .before .before .loop-test .taken in
     let r = rows-room (entriesOf (a .t)) (a .p) (λ n. getD (a .t4) n 0) (a .page .now) (l .inv .1) (l .n) (l .page) (l .inv .0) (l .inv .2) in
     rw r (room (l .n) _ t (l .inv .1))
-
-loop-less : tie.Need-loop-less Inv-loop μ-loop
-loop-less c = search needs
 
 loop-again : tie.Need-loop-again Inv-loop μ-loop
 unfolding row
@@ -77,13 +59,13 @@ put-rows-spec =
     Inv-loop
     μ-loop
     loop-holds
-    add-c
-    mul-put
-    cast-line
-    array-read-line
-    line-requires
+    (λ c. search needs)
+    (λ c. search needs)
+    (λ c. search needs)
+    (λ c. search needs)
+    (λ c κs. search needs)
     put-requires
-    loop-less
+    (λ c. search needs)
     loop-again
     same-length
     returns)

@@ -22,9 +22,6 @@ Inv-loop c entries n k₀ k = (k ≤ n) × (n ≤ 16) × (length entries ≡ 16)
 abbrev μ-loop : tie.MeasureT-loop
 μ-loop c entries n k₀ k = 16 - k
 
-at-most-requires : tie.Need-at-most-requires Inv-loop μ-loop
-at-most-requires c κs = search needs
-
 loop-holds : tie.Need-loop-holds Inv-loop μ-loop
 loop-holds c = let s = c .before .before in (omega arith, omega arith, entries-16 (s .args .t) (s .good .0), refl)
 
@@ -75,7 +72,7 @@ standing-of-spec =
     (tie.spec
     Inv-loop
     μ-loop
-    at-most-requires
+    (λ c κs. search needs)
     loop-holds
     cast-e
     mul-e

@@ -10,18 +10,6 @@ use Rattle.service.proofs.write_page.Tie as tie
 returns : tie.Need-returns
 returns c = page-none (c .before .before .args .d) (c .before .before .args .page .now) (c .if1 .taken)
 
-put-requires : tie.Need-put-requires
-put-requires c κs = search needs
-
-busy-counts-requires : tie.Need-busy-counts-requires
-busy-counts-requires c κs = search needs
-
-put-rows-requires : tie.Need-put-rows-requires
-put-rows-requires c κs = search needs
-
-same-length : tie.Need-same-length
-same-length c = search needs
-
 returns-2 : tie.Need-returns-2
 unfolding head
 returns-2 c =
@@ -33,4 +21,4 @@ returns-2 c =
     page-whole (a .d) (a .page .now) _ _ (counts .result) left (b .put .ensures) (counts .ensures) (rows .ensures)
 
 pub write-page-spec : {M : Type 1} → statement M
-write-page-spec = tie.close (tie.spec returns put-requires busy-counts-requires put-rows-requires same-length returns-2)
+write-page-spec = tie.close (tie.spec returns (λ c κs. search needs) (λ c κs. search needs) (λ c κs. search needs) (λ c. search needs) returns-2)

@@ -10,12 +10,6 @@ returns : tie.Need-returns
 unfolding songByte
 returns c = simp (eq-eqb _ _ (c .if1 .taken))
 
-sub-result : tie.Need-sub-result
-sub-result c = search needs
-
-cast-result : tie.Need-cast-result
-cast-result c = search needs
-
 returns-2 : tie.Need-returns-2
 unfolding songByte
 returns-2 c = simp (ne-eqb _ _ (c .before .if1 .left), eq-eqb _ _ (c .if2 .taken))
@@ -25,4 +19,4 @@ unfolding songByte
 returns-3 c = simp (ne-eqb _ _ (c .before .if1 .left), ne-eqb _ _ (c .if2 .left))
 
 pub song-byte-spec : {M : Type 1} → statement M
-song-byte-spec = tie.close (tie.spec returns sub-result cast-result returns-2 returns-3)
+song-byte-spec = tie.close (tie.spec returns (λ c. search needs) (λ c. search needs) returns-2 returns-3)

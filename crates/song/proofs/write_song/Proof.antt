@@ -16,17 +16,11 @@ Inv-loop polyphony n song₀ d₀ thefts₀ i₀ song d thefts i = Turn polyphon
 abbrev μ-loop : tie.MeasureT-loop
 μ-loop polyphony n song₀ d₀ thefts₀ i₀ song d thefts i = n - i
 
-is-wrong-polyphony-requires : tie.Need-is-wrong-polyphony-requires Inv-loop μ-loop
-is-wrong-polyphony-requires c κs = search needs
-
 returns : tie.Need-returns Inv-loop μ-loop
 unfolding songAnswer songWritten
 returns c =
     let w = sym (c .before .is-wrong-polyphony .ensures) ∙ c .if1 .taken in
     (simp w, simp w)
-
-is-too-long-requires : tie.Need-is-too-long-requires Inv-loop μ-loop
-is-too-long-requires c κs = search needs
 
 returns-2 : tie.Need-returns-2 Inv-loop μ-loop
 unfolding songAnswer songWritten
@@ -35,17 +29,11 @@ returns-2 c =
     let l = sym (c .before .is-too-long .ensures) ∙ c .if2 .taken in
     (simp (w, l), simp (w, l))
 
-start-requires : tie.Need-start-requires Inv-loop μ-loop
-start-requires c κs = search needs
-
 loop-holds : tie.Need-loop-holds Inv-loop μ-loop
 loop-holds c =
     let b = c .before .before in
     let w = sym (b .before .before .before .is-wrong-polyphony .ensures) ∙ b .before .before .if1 .left in
     turn-first _ _ _ _ w (sym (b .before .is-too-long .ensures) ∙ b .if2 .left) (c .before .start .ensures)
-
-song-byte-requires : tie.Need-song-byte-requires Inv-loop μ-loop
-song-byte-requires c κs = search needs
 
 slice-write-song : tie.Need-slice-write-song Inv-loop μ-loop
 slice-write-song c =
@@ -54,12 +42,6 @@ slice-write-song c =
     let r = l .inv .room in
     let s = l .inv .same in
     omega arith
-
-byte-requires : tie.Need-byte-requires Inv-loop μ-loop
-byte-requires c κs = search needs
-
-theft-requires : tie.Need-theft-requires Inv-loop μ-loop
-theft-requires c κs = search needs
 
 add-thefts : tie.Need-add-thefts Inv-loop μ-loop
 add-thefts c =
@@ -76,9 +58,6 @@ add-i c =
     let t = c .before .before .before .before .loop-test .taken in
     let r = l .inv .few in
     omega arith
-
-loop-less : tie.Need-loop-less Inv-loop μ-loop
-loop-less c = search needs
 
 loop-again : tie.Need-loop-again Inv-loop μ-loop
 loop-again c =
@@ -97,19 +76,19 @@ write-song-spec =
     (tie.spec
     Inv-loop
     μ-loop
-    is-wrong-polyphony-requires
+    (λ c κs. search needs)
     returns
-    is-too-long-requires
+    (λ c κs. search needs)
     returns-2
-    start-requires
+    (λ c κs. search needs)
     loop-holds
-    song-byte-requires
+    (λ c κs. search needs)
     slice-write-song
-    byte-requires
-    theft-requires
+    (λ c κs. search needs)
+    (λ c κs. search needs)
     add-thefts
     add-i
-    loop-less
+    (λ c. search needs)
     loop-again
     same-length
     returns-3)

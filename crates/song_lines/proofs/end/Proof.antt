@@ -9,12 +9,9 @@ returns : tie.Need-returns
 unfolding endRequest
 returns c = rw (c .if1 .taken)
 
-ended-requires : tie.Need-ended-requires
-ended-requires c κs = search needs
-
 returns-2 : tie.Need-returns-2
 unfolding endRequest
 returns-2 c = rw (c .before .if1 .left) (c .ended .ensures)
 
 pub end-spec : {M : Type 1} → statement M
-end-spec = tie.close (tie.spec returns ended-requires returns-2)
+end-spec = tie.close (tie.spec returns (λ c κs. search needs) returns-2)

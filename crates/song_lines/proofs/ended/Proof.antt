@@ -5,18 +5,6 @@ use Rattle.song_lines.specs.SongLines.{lineRequest}
 use Rattle.song_lines.proofs.ended.Statement.{statement}
 use Rattle.song_lines.proofs.ended.Tie as tie
 
-cast-at-most : tie.Need-cast-at-most
-cast-at-most c = search needs
-
-at-most-requires : tie.Need-at-most-requires
-at-most-requires c κs = search needs
-
-cast-polyphony : tie.Need-cast-polyphony
-cast-polyphony c = search needs
-
-cast-t7 : tie.Need-cast-t7
-cast-t7 c = search needs
-
 returns : tie.Need-returns
 unfolding lineRequest
 returns c = rw (c .before .before .before .if1 .taken, c .before .at-most .ensures .0)
@@ -26,4 +14,4 @@ unfolding lineRequest
 returns-2 c = rw (c .if1 .left)
 
 pub ended-spec : {M : Type 1} → statement M
-ended-spec = tie.close (tie.spec cast-at-most at-most-requires cast-polyphony cast-t7 returns returns-2)
+ended-spec = tie.close (tie.spec (λ c. search needs) (λ c κs. search needs) (λ c. search needs) (λ c. search needs) returns returns-2)

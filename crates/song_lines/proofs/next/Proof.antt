@@ -8,22 +8,13 @@ use Rattle.song_lines.specs.SongLines.{request}
 use Rattle.song_lines.proofs.next.Statement.{statement}
 use Rattle.song_lines.proofs.next.Tie as tie
 
-begin-requires : tie.Need-begin-requires
-begin-requires c κs = search needs
-
-ended-requires : tie.Need-ended-requires
-ended-requires c κs = search needs
-
 returns : tie.Need-returns
 unfolding request after
 returns c = rw (eq-eqb _ _ (c .before .before .if1 .taken)) (c .before .begin .ensures, c .ended .ensures)
-
-read-requires : tie.Need-read-requires
-read-requires c κs = search needs
 
 returns-2 : tie.Need-returns-2
 unfolding request after
 returns-2 c = rw (ne-eqb _ _ (c .before .if1 .left)) (c .read .ensures, refl)
 
 pub next-spec : {M : Type 1} → statement M
-next-spec = tie.close (tie.spec begin-requires ended-requires returns read-requires returns-2)
+next-spec = tie.close (tie.spec (λ c κs. search needs) (λ c κs. search needs) returns (λ c κs. search needs) returns-2)

@@ -11,48 +11,21 @@ use Rattle.song_lines.proofs.put_song.Tie as tie
 returns : tie.Need-returns
 returns c = small-page _ _ _ _ (c .if1 .taken)
 
-write-behind-requires : tie.Need-write-behind-requires
-write-behind-requires c κs = search needs
-
-enum-known-a : tie.Need-enum-known-a
-enum-known-a c = search needs
-
-slice-write-page : tie.Need-slice-write-page
-slice-write-page c = search needs
-
-slice-write-page-2 : tie.Need-slice-write-page-2
-slice-write-page-2 c = search needs
-
 add-t15 : tie.Need-add-t15
 add-t15 c =
     let w = c .before .before .before .before .before .write-behind .ensures in
     let h = song-short _ _ _ _ (sym (w .0) ∙ c .before .a .given .1) in
     omega arith
 
-enum-told : tie.Need-enum-told
-enum-told c = search needs
-
-enum-told-2 : tie.Need-enum-told-2
-enum-told-2 c = search needs
-
-same-length : tie.Need-same-length
-same-length c = search needs
-
 returns-2 : tie.Need-returns-2
 returns-2 c =
     let w = c .before .before .before .before .before .write-behind .ensures in
     put-song _ _ _ _ _ (c .before .before .before .before .before .before .before .if1 .left) (sym (w .0) ∙ c .before .a .given .1) (w .1)
 
-same-length-2 : tie.Need-same-length-2
-same-length-2 c = search needs
-
 returns-3 : tie.Need-returns-3
 returns-3 c =
     let w = c .before .before .before .before .write-behind .ensures in
     put-wrong _ _ _ _ (c .before .before .before .before .before .before .if1 .left) (sym (w .0) ∙ c .enum-told .given .1)
-
-same-length-3 : tie.Need-same-length-3
-same-length-3 c = search needs
 
 returns-4 : tie.Need-returns-4
 returns-4 c =
@@ -64,16 +37,16 @@ put-song-spec =
     tie.close
     (tie.spec
     returns
-    write-behind-requires
-    enum-known-a
-    slice-write-page
-    slice-write-page-2
+    (λ c κs. search needs)
+    (λ c. search needs)
+    (λ c. search needs)
+    (λ c. search needs)
     add-t15
-    enum-told
-    enum-told-2
-    same-length
+    (λ c. search needs)
+    (λ c. search needs)
+    (λ c. search needs)
     returns-2
-    same-length-2
+    (λ c. search needs)
     returns-3
-    same-length-3
+    (λ c. search needs)
     returns-4)

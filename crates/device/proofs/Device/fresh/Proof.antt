@@ -4,14 +4,8 @@ use borrow.Author.Needs.{needs}
 use Rattle.device.proofs.Device.fresh.Statement.{statement}
 use Rattle.device.proofs.Device.fresh.Tie as tie
 
-new-requires : tie.Need-new-requires
-new-requires c κs = search needs
-
-fresh-requires : tie.Need-fresh-requires
-fresh-requires c κs = search needs
-
 returns : tie.Need-returns
 returns c = simp (c .fresh .ensures, c .before .new .ensures)
 
 pub fresh-spec : {M : Type 1} → statement M
-fresh-spec = tie.close (tie.spec new-requires fresh-requires returns)
+fresh-spec = tie.close (tie.spec (λ c κs. search needs) (λ c κs. search needs) returns)

@@ -10,18 +10,9 @@ returns : tie.Need-returns
 unfolding put
 returns c = simp (le-ltb _ _ (c .if1 .taken))
 
-cast-bytes : tie.Need-cast-bytes
-cast-bytes c = search needs
-
-array-write-bytes : tie.Need-array-write-bytes
-array-write-bytes c = search needs
-
-add-t9 : tie.Need-add-t9
-add-t9 c = search needs
-
 returns-2 : tie.Need-returns-2
 unfolding put
 returns-2 c = simp (lt-ltb _ _ (c .before .if1 .left))
 
 pub push-spec : {M : Type 1} → statement M
-push-spec = tie.close (tie.spec returns cast-bytes array-write-bytes add-t9 returns-2)
+push-spec = tie.close (tie.spec returns (λ c. search needs) (λ c. search needs) (λ c. search needs) returns-2)

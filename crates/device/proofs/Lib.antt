@@ -1,0 +1,2 @@
+-- What holds of every list of bytes.
+pub mod Bytes
