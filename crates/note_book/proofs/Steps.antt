@@ -45,7 +45,6 @@ use Rattle.reports.specs.Reports.{reported}
 use Rattle.exclusive.specs.Exclusive.{newTable}
 use Rattle.note_book.specs.Book.{Slot, empty, note, Book, withHolds, withTable, freshBook, shareOf, isRhythm, pedalDown, isDown, isOnPedal, isOf, isOfKey, freed, allFreed, put, keepNoteOff, holdAfter, notesAfter, keepControl, keepMessage, isOfMasked, keepTable, keepReport}
 use Rattle.note_book.specs.Claim.{slotOf}
-use Rattle.note_book.proofs.Either.{either-way}
 use Rattle.note_book.proofs.Playable.{playable-changed, playable-silenced, playable-restated, playable-silent}
 use Rattle.note_book.proofs.Sees.{slot-freed, means, pedals, sees-restated, sees-changed, sees-channel, sees-one, sees-silent}
 use Rattle.note_book.proofs.Pigeons.{IsListed}
@@ -106,27 +105,28 @@ matches-channel i b m c lo hi x h e others =
         let n = eqb-false d c q in
         ap (λ (y : Channel). y .hold) (getD-set-other (i .channels) (c - 1) (d - 1) x of-channel.fresh (λ (z : d - 1 ≡ c - 1). n (omega arith))) ∙ m .holds d l ∙ sym (others d n)
 
+hold-if : (b : Bool) (x y : Channel) (h : ℕ) → x .hold ≡ h → y .hold ≡ h → (if b then x else y) .hold ≡ h
+hold-if true x y h p q = p
+hold-if false x y h p q = q
+
 -- a controller's hold: 64 and 121 alone touch it
 controlled-hold : (x : Channel) (n v : ℕ) → controlled x n v .hold ≡ holdAfter n v (x .hold)
 unfolding controlled dataEntry reset stored
 controlled-hold x n v = go (eqb n 64) refl (eqb n 121 && eqb v 0) refl
   where
-    same : Channel → Type 0
-    same y = y .hold ≡ x .hold
-
     go : (a : Bool) → eqb n 64 ≡ a → (b : Bool) → eqb n 121 && eqb v 0 ≡ b → controlled x n v .hold ≡ (if a then v else if b then 0 else x .hold)
     go true p b q = rw (eqb-true n 64 p)
     go false p true q = let e = eqb-true n 121 (and-left (eqb n 121) (eqb v 0) q) in rw q (rw e)
     go false p false q =
         rw (p, q)
-        (either-way same (eqb n 6) _ _ (either-way same (eqb (x .«rpn_msb») 0 && eqb (x .«rpn_lsb») 0) _ _ refl refl)
-        (either-way same (eqb n 98 || eqb n 99) _ _ refl
-        (either-way same (eqb n 1) _ _ refl
-        (either-way same (eqb n 7) _ _ refl
-        (either-way same (eqb n 10) _ _ refl
-        (either-way same (eqb n 11) _ _ refl
-        (either-way same (eqb n 100) _ _ refl
-        (either-way same (eqb n 101) _ _ refl refl))))))))
+        (hold-if (eqb n 6) _ _ (x .hold) (hold-if (eqb (x .«rpn_msb») 0 && eqb (x .«rpn_lsb») 0) _ _ (x .hold) refl refl)
+        (hold-if (eqb n 98 || eqb n 99) _ _ (x .hold) refl
+        (hold-if (eqb n 1) _ _ (x .hold) refl
+        (hold-if (eqb n 7) _ _ (x .hold) refl
+        (hold-if (eqb n 10) _ _ (x .hold) refl
+        (hold-if (eqb n 11) _ _ (x .hold) refl
+        (hold-if (eqb n 100) _ _ (x .hold) refl
+        (hold-if (eqb n 101) _ _ (x .hold) refl refl))))))))
 
 step-control : (i : Instrument) (b : Book) → Matches i b → (c n v : ℕ) → 1 ≤ c → c ≤ 16 → Matches (playControl i c n v) (keepControl b c n v)
 unfolding playControl of-others.notesAfter withChannel
