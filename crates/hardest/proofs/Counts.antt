@@ -10,6 +10,7 @@ use borrow.Author.Tests.{eqb-true, ne-eqb, lt-leb}
 use lib.Dec.{eqb, leb, ltb}
 use Rattle.loops.specs.Cases.{if_then_else_, bit}
 use Rattle.loops.specs.Passes.{total}
+use Rattle.loops.proofs.Cases.{by-both}
 use Rattle.loops.proofs.Totals.{bit-le, total-le}
 use Rattle.loops.proofs.Tests.{impossible}
 use Rattle.splitter.specs.declared.Parser.{Parser}
@@ -26,7 +27,6 @@ use Rattle.sysex.specs.declared.Kind.the-variants as kind
 use Rattle.sysex.specs.SysEx.{kindOf}
 use Rattle.playing.specs.declared.Answer.{Answer}
 use Rattle.note_book.specs.Book.{Slot, empty, note, isNote, freed, Heard, nothing, message, newTable, reset, report, isDone, exclusiveHeard, completedHeard}
-use Rattle.note_book.proofs.Either.{either-way}
 
 -- ---- bytes in hand
 
@@ -92,7 +92,7 @@ hand-opened p b = let h = weigh-new (if ltb b 0xF4 then b else 0) in omega arith
 
 hand-stored : (p : Parser) (b : ℕ) → inHand (stored p b) ≤ inHand p + 1
 unfolding stored
-hand-stored p b = either-way (λ (q : Parser). inHand q ≤ inHand p + 1) (ltb (p .count) 37) _ _ (weigh-same (p .status) (p .count + 1) (p .count)) (omega arith)
+hand-stored p b = by-both (λ (q : Parser). inHand q ≤ inHand p + 1) (ltb (p .count) 37) _ _ (weigh-same (p .status) (p .count + 1) (p .count)) (omega arith)
 
 pays-status : (p : Parser) (b : ℕ) → Pays p (statusByte p b)
 unfolding statusByte
@@ -155,16 +155,16 @@ Few n m = noteOns (message m) ≤ n
 on-decode : (s a b : ℕ) → noteOns (message (decode s a b)) ≤ bit (eqb (s / 16) 9)
 unfolding decode
 on-decode s a b =
-    either-way (Few (bit (eqb (s / 16) 9))) (eqb (s / 16) 8) _ _ (omega arith)
+    by-both (Few (bit (eqb (s / 16) 9))) (eqb (s / 16) 8) _ _ (omega arith)
     (go (eqb (s / 16) 9))
   where
     rest : (n : ℕ) → noteOns (message (if eqb (s / 16) 11 then Control (channelOf s) a b else if eqb (s / 16) 12 then Program (channelOf s) a else if eqb (s / 16) 14 then Bend (channelOf s) b a else Other)) ≤ n
-    rest n = either-way (Few n) (eqb (s / 16) 11) _ _ (omega arith) (either-way (Few n) (eqb (s / 16) 12) _ _ (omega arith) (either-way (Few n) (eqb (s / 16) 14) _ _ (omega arith) (omega arith)))
+    rest n = by-both (Few n) (eqb (s / 16) 11) _ _ (omega arith) (by-both (Few n) (eqb (s / 16) 12) _ _ (omega arith) (by-both (Few n) (eqb (s / 16) 14) _ _ (omega arith) (omega arith)))
 
     go : (y : Bool)
         → noteOns (message (if y then (if eqb b 0 then NoteOff (channelOf s) a else NoteOn (channelOf s) a) else if eqb (s / 16) 11 then Control (channelOf s) a b else if eqb (s / 16) 12 then Program (channelOf s) a else if eqb (s / 16) 14 then Bend (channelOf s) b a else Other))
         ≤ bit y
-    go true = either-way (Few 1) (eqb b 0) _ _ (omega arith) (omega arith)
+    go true = by-both (Few 1) (eqb b 0) _ _ (omega arith) (omega arith)
     go false = rest 0
 
 on-exclusive : (l : List ℕ) (k : Kind) (x : Bool) → noteOns (if x then exclusiveHeard l k else nothing) ≡ 0

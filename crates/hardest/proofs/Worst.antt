@@ -11,6 +11,7 @@ use lib.Dec.{leb}
 use lib.ListN.{length}
 use Rattle.loops.specs.Cases.{if_then_else_, bit}
 use Rattle.loops.specs.Passes.{filterBy}
+use Rattle.loops.proofs.Cases.{by-both}
 use Rattle.loops.proofs.Totals.{total-bits}
 use Rattle.loops.proofs.Tests.{impossible}
 use Rattle.splitter.specs.Split.{begun, split}
@@ -30,7 +31,6 @@ use Rattle.events.specs.declared.Event.the-variants.{Byte}
 use Rattle.events.specs.Events.{taken}
 use Rattle.note_book.specs.Book.{Slot, empty, note, isNote, Book, withHolds, isDone, isRhythm, isEnded, allFreed, put, remaining, keepNoteOn, notesAfter, keepControl, keepMessage, keepReport, Heard, message, keep}
 use Rattle.note_book.specs.Claim.{Both, Live}
-use Rattle.note_book.proofs.Either.{either-way}
 use Rattle.note_book.proofs.Matches.{Matches, Outcome, masked, served, robbed, turned, note-law}
 use Rattle.note_book.proofs.Run.{IsNoNote, Right, right-nothing, right-message, right-table, right-reset, right-report, count-put, Fine, fine-next}
 use Rattle.note_book.proofs.Bytes.{lawful, freshBoth, fine-fresh}
@@ -67,13 +67,13 @@ calm-holds b b′ h t = record { same = t .same; fewer = t .fewer }
 calm-control : (b : Book) (c n v : ℕ) → Calm b (keepControl b c n v)
 calm-control b c n v =
     calm-holds b (notesAfter b c n v) _
-    (either-way (Calm b) (liftsPedal n v) _ _ (calm-freed _ _ b)
-    (either-way (Calm b) (silencesAll n v) _ _ (calm-freed _ _ b)
-    (either-way (Calm b) (endsAll n v) _ _ (calm-freed _ _ b) (calm-same b))))
+    (by-both (Calm b) (liftsPedal n v) _ _ (calm-freed _ _ b)
+    (by-both (Calm b) (silencesAll n v) _ _ (calm-freed _ _ b)
+    (by-both (Calm b) (endsAll n v) _ _ (calm-freed _ _ b) (calm-same b))))
 
 calm-report : (b : Book) (g : ℕ) (a : Answer) → Calm b (keepReport b g a)
 calm-report b g a =
-    either-way (Calm b) (isDone a) _ _ (record { same = refl; fewer = let h = count-put isNote (b .polyphony) g empty (b .notes) in omega arith }) (calm-same b)
+    by-both (Calm b) (isDone a) _ _ (record { same = refl; fewer = let h = count-put isNote (b .polyphony) g empty (b .notes) in omega arith }) (calm-same b)
 
 no-theft : {A : Type 0} (a : Answer) → isTheft a ≡ false → isTheft a ≡ true → A
 no-theft a f t = let q : _≡_ {A = Bool} false true = sym f ∙ t in impossible (cc)
@@ -116,7 +116,7 @@ step : (i j : Instrument) (b : Book) (h : Heard) (a : Answer) → Right i b h a 
 unfolding keep keepMessage played
 step i j b h a (right-nothing x n) m = of-calm b b _ x (calm-same b) (unnamed x n)
 step i j b h a (right-message (NoteOn c k) s) m = step-on b c k _ (note-law i b m c k .outcome)
-step i j b h a (right-message (NoteOff c k) s) m = of-calm b _ _ answer.Done (either-way (Calm b) (isRhythm b c) _ _ (calm-same b) (calm-freed _ _ b)) refl
+step i j b h a (right-message (NoteOff c k) s) m = of-calm b _ _ answer.Done (by-both (Calm b) (isRhythm b c) _ _ (calm-same b) (calm-freed _ _ b)) refl
 step i j b h a (right-message (Control c n v) s) m = of-calm b _ _ answer.Done (calm-control b c n v) refl
 step i j b h a (right-message (Program c n) s) m = of-calm b b _ answer.Done (calm-same b) refl
 step i j b h a (right-message (Bend c x y) s) m = of-calm b b _ answer.Done (calm-same b) refl

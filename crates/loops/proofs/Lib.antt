@@ -1,3 +1,4 @@
+pub mod Cases
 pub mod Compact
 pub mod Fill
 pub mod Marks

@@ -8,6 +8,7 @@ use mathlib.Core.List.{List, [], _∷_}
 use Prim.Native.Nat.{ℕ}
 use lib.Dec.{leb}
 use Rattle.loops.specs.Cases.{if_then_else_}
+use Rattle.loops.proofs.Cases.{by-both}
 use Rattle.message.specs.declared.Message.the-variants.{NoteOn, NoteOff, Control, Program, Bend, Other}
 use Rattle.table.specs.declared.Table.{Table}
 use Rattle.generators.specs.declared.Generators.{Generators}
@@ -31,7 +32,6 @@ use Rattle.exclusive.specs.Exclusive.{newTable}
 use Rattle.note_book.specs.Book.{Book, Heard}
 use Rattle.note_book.specs.Claim.{System, after}
 use Rattle.note_book.specs.Age.{named, byAnswers, AgeByAnswers}
-use Rattle.note_book.proofs.Either.{either-way}
 use Rattle.note_book.proofs.Matches.{Matches, note-law}
 use Rattle.note_book.proofs.Steps.{gives-way, way-busy}
 use Rattle.note_book.proofs.Run.{Right, right-nothing, right-message, right-table, right-reset, right-report, Lawful, Fine, fine-next}
@@ -48,9 +48,9 @@ module _ (i : Instrument) (o : Ordered (i .generators)) (l : List ℕ) (f : Foll
   follows-control : (c n v : ℕ) → Follows (playControl i c n v .generators) l
   unfolding playControl notesAfter
   follows-control c n v =
-      either-way kept (liftsPedal n v) _ _ (follows-changed (change.PedalUp c) (i .generators) o l f)
-      (either-way kept (silencesAll n v) _ _ (follows-silenced (leaving.Channel c) (i .generators) o l f)
-      (either-way kept (endsAll n v) _ _ (follows-changed (change.AllNotesOff _ c) (i .generators) o l f) f))
+      by-both kept (liftsPedal n v) _ _ (follows-changed (change.PedalUp c) (i .generators) o l f)
+      (by-both kept (silencesAll n v) _ _ (follows-silenced (leaving.Channel c) (i .generators) o l f)
+      (by-both kept (endsAll n v) _ _ (follows-changed (change.AllNotesOff _ c) (i .generators) o l f) f))
     where
       kept : Generators → Type 0
       kept s = Follows s l

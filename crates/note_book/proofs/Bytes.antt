@@ -10,6 +10,7 @@ use borrow.Author.Tests.{ltb-false}
 use lib.Dec.{eqb, ltb}
 use lib.ListN.{drop}
 use Rattle.loops.specs.Cases.{if_then_else_}
+use Rattle.loops.proofs.Cases.{by-both}
 use Rattle.loops.proofs.Tests.{or-right}
 use Rattle.splitter.specs.declared.Parser.{Parser}
 use Rattle.splitter.specs.declared.Completed.{Completed}
@@ -39,7 +40,6 @@ use Rattle.events.specs.declared.Event.the-variants.{Byte, Report}
 use Rattle.events.specs.Events.{reportTaken, taken}
 use Rattle.note_book.specs.Book.{Book, freshBook, startBook, nothing, newTable, isDone, exclusiveHeard, completedHeard}
 use Rattle.note_book.specs.Claim.{Both, Live, begin}
-use Rattle.note_book.proofs.Either.{either-way}
 use Rattle.note_book.proofs.Matches.{Matches}
 use Rattle.note_book.proofs.Steps.{IsSent, step-fresh}
 use Rattle.note_book.proofs.Run.{Right, right-nothing, right-message, right-table, right-reset, right-report, Lawful, Fine}
@@ -52,11 +52,11 @@ unfolding decode
 decode-sent s a b =
     let lo : 1 ≤ channelOf s = omega arith in
     let hi : channelOf s ≤ 16 = omega arith in
-    either-way IsSent (eqb (s / 16) 8) _ _ lo
-    (either-way IsSent (eqb (s / 16) 9) _ _ (either-way IsSent (eqb b 0) _ _ lo tt)
-    (either-way IsSent (eqb (s / 16) 11) _ _ (lo, hi)
-    (either-way IsSent (eqb (s / 16) 12) _ _ (lo, hi)
-    (either-way IsSent (eqb (s / 16) 14) _ _ (lo, hi) tt))))
+    by-both IsSent (eqb (s / 16) 8) _ _ lo
+    (by-both IsSent (eqb (s / 16) 9) _ _ (by-both IsSent (eqb b 0) _ _ lo tt)
+    (by-both IsSent (eqb (s / 16) 11) _ _ (lo, hi)
+    (by-both IsSent (eqb (s / 16) 12) _ _ (lo, hi)
+    (by-both IsSent (eqb (s / 16) 14) _ _ (lo, hi) tt))))
 
 -- ---- SysEx
 

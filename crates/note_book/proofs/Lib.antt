@@ -1,4 +1,4 @@
-pub mod Either
+-- The proof of demand 3, from one generator up to every list, and facts which show that it bites.
 pub mod Playable
 pub mod Sees
 pub mod Pigeons

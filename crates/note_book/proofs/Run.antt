@@ -11,6 +11,7 @@ use borrow.Author.Tests.{eqb-true, eq-eqb, ne-eqb}
 use lib.Dec.{eqb}
 use Rattle.loops.specs.Cases.{if_then_else_, bit}
 use Rattle.loops.specs.Passes.{total}
+use Rattle.loops.proofs.Cases.{by-both}
 use Rattle.loops.proofs.Totals.{total-same, total-le}
 use Rattle.message.specs.declared.Message.{Message}
 use Rattle.message.specs.declared.Message.the-variants.{NoteOn, NoteOff, Control, Program, Bend, Other}
@@ -31,7 +32,6 @@ use Rattle.exclusive.specs.Exclusive as of-exclusive
 use Rattle.note_book.specs.Book.{Slot, empty, note, Book, isDone, shareOf, isRhythm, isOf, isEnded, freed, allFreed, put, withHolds, remaining, keepNoteOn, notesAfter, keepControl, keepMessage, keepReport, Heard, nothing, message, newTable, reset, report, keep, notesOn, countAt}
 use Rattle.note_book.specs.Claim.{IsWithin, isLoss, IsFull, Fair, Keeps, Safe, AtNoteOn, IsInRun, System, after, IsExact, Always, Each, IsRun, Demand3}
 use Rattle.note_book.specs.Age.{named}
-use Rattle.note_book.proofs.Either.{either-way}
 use Rattle.note_book.proofs.Pigeons.{IsOver, flip, withNew}
 use Rattle.note_book.proofs.Matches.{Matches, Outcome, masked, served, robbed, turned, note-law}
 use Rattle.note_book.proofs.Steps.{IsSent, step-message, step-table, step-report, step-reset}
@@ -104,16 +104,16 @@ tame-holds b b′ h t = record { same-polyphony = t .same-polyphony; same-table 
 
 tame-report : (b : Book) (g : ℕ) (a : Answer) → Tamer b (keepReport b g a)
 tame-report b g a =
-    either-way (Tamer b) (isDone a) _ _
+    by-both (Tamer b) (isDone a) _ _
     (record { same-polyphony = refl; same-table = refl; fewer = λ x. let h = count-put (isOf x) (b .polyphony) g empty (b .notes) in omega arith })
     (tame-same b)
 
 tame-control : (b : Book) (c n v : ℕ) → Tamer b (keepControl b c n v)
 tame-control b c n v =
     tame-holds b (notesAfter b c n v) _
-    (either-way (Tamer b) (liftsPedal n v) _ _ (tame-freed _ _ b)
-    (either-way (Tamer b) (silencesAll n v) _ _ (tame-freed _ _ b)
-    (either-way (Tamer b) (endsAll n v) _ _ (tame-freed _ _ b) (tame-same b))))
+    (by-both (Tamer b) (liftsPedal n v) _ _ (tame-freed _ _ b)
+    (by-both (Tamer b) (silencesAll n v) _ _ (tame-freed _ _ b)
+    (by-both (Tamer b) (endsAll n v) _ _ (tame-freed _ _ b) (tame-same b))))
 
 -- ---- the claims at a note-on
 
@@ -197,7 +197,7 @@ module _ (i j : Instrument) (b : Book) (m : Matches i b) where
   unfolding keep keepMessage
   within-heard c nothing a r n w k = w
   within-heard c (message (NoteOn d x)) a r n w k = within-on b c d x w k a (outcome-of i j b m d x a r)
-  within-heard c (message (NoteOff d x)) a r n w k = within-tame c b _ (either-way (Tamer b) (isRhythm b d) _ _ (tame-same b) (tame-freed _ _ b)) w
+  within-heard c (message (NoteOff d x)) a r n w k = within-tame c b _ (by-both (Tamer b) (isRhythm b d) _ _ (tame-same b) (tame-freed _ _ b)) w
   within-heard c (message (Control d x v)) a r n w k = within-tame c b _ (tame-control b d x v) w
   within-heard c (message (Program d x)) a r n w k = w
   within-heard c (message (Bend d x y)) a r n w k = w

@@ -11,6 +11,7 @@ use borrow.Author.Tests.{ltb-true}
 use lib.Dec.{eqb, leb, ltb}
 use lib.ListN.{length, getD, set, drop, replicate, length-set}
 use Rattle.loops.specs.Cases.{if_then_else_, atMost}
+use Rattle.loops.proofs.Cases.{by-both}
 use Rattle.splitter.specs.declared.Parser.{Parser}
 use Rattle.splitter.specs.declared.Completed.{Completed}
 use Rattle.splitter.specs.declared.Completed.the-variants as completed
@@ -45,11 +46,6 @@ use Rattle.events.specs.declared.Event.{Event}
 use Rattle.events.specs.declared.Event.the-variants.{Byte, Report}
 use Rattle.events.specs.Events.{reportTaken, taken}
 use Rattle.reached.specs.Reached.{InRange, after, AlwaysInRange}
-
--- what holds of both sides of a choice
-by-both : {A : Type 0} (P : A → Type 0) (b : Bool) (x y : A) → P x → P y → P (if b then x else y)
-by-both P true x y p q = p
-by-both P false x y p q = q
 
 -- ---- one channel
 

@@ -1,8 +1,0 @@
--- What holds of both ends of a choice holds of the choice, whichever way its test goes.
--- Assumes nothing.
-use mathlib.Core.Bool.{Bool, true, false}
-use Rattle.loops.specs.Cases.{if_then_else_}
-
-pub either-way : {A : Type 0} (P : A → Type 0) (b : Bool) (x y : A) → P x → P y → P (if b then x else y)
-either-way P true x y p q = p
-either-way P false x y p q = q
