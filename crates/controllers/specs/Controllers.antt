@@ -1,4 +1,5 @@
--- Document 01, "Other messages": controller n with value v, by what it leaves of its channel's numbers and by the notes that it ends.
+-- Document 01, "Other messages": controller n with value v, by what it leaves of its channel's numbers and by the notes
+-- that it ends.
 use Prim.Native.Nat.{ℕ}
 use mathlib.Core.Bool.{Bool, _&&_, _||_}
 use lib.Dec.{eqb, ltb}
@@ -9,7 +10,8 @@ use Rattle.channels.specs.declared.Channel.{Channel}
 unfoldable pub dataEntry : Channel → ℕ → ℕ
 dataEntry c v = if eqb (c .«rpn_msb») 0 && eqb (c .«rpn_lsb») 0 then atMost 24 v else c .sensitivity
 
--- "controllers 1, 7, 10, 11, 64, 100, 101 are stored", "98 and 99 set both RPN numbers to 127"; every other one, 38 among them, changes nothing
+-- "controllers 1, 7, 10, 11, 64, 100, 101 are stored", "98 and 99 set both RPN numbers to 127"; every other one, 38
+-- among them, changes nothing
 unfoldable pub stored : Channel → ℕ → ℕ → Channel
 stored c n v =
     record {
@@ -47,7 +49,8 @@ reset c =
 unfoldable pub controlled : Channel → ℕ → ℕ → Channel
 controlled c n v = if eqb n 121 && eqb v 0 then reset c else stored c n v
 
--- the controllers that end notes: "Hold below 64" and "121, value 0" lift the pedal; "120, value 0" silences; "123, value 0" is a note-off for each key
+-- the controllers that end notes: "Hold below 64" and "121, value 0" lift the pedal; "120, value 0" silences;
+-- "123, value 0" is a note-off for each key
 abbrev pub liftsPedal : ℕ → ℕ → Bool
 liftsPedal n v = eqb n 64 && ltb v 64 || eqb n 121 && eqb v 0
 

@@ -1,10 +1,12 @@
-// What controllers do to a channel's numbers, and which of them end notes (document 01, "Other messages"), by value, for every value. Masks are no matter
-// here: a masked channel's controllers are stored like any other's. What becomes of the notes is in crate other_messages. Assumes nothing.
+// What controllers do to a channel's numbers, and which of them end notes (document 01, "Other messages"), by value,
+// for every value. Masks are no matter here: a masked channel's controllers are stored like any other's. What becomes
+// of the notes is in crate other_messages. Assumes nothing.
 ghost use mathlib.Core.Path.{_≡_};
 ghost use Rattle.controllers.specs.Controllers.{dataEntry, stored, reset, controlled, liftsPedal, silencesAll, endsAll};
 use channels::Channel;
 
-// The sensitivity after Data Entry MSB: bend sensitivity is the only registered parameter here. Its LSB, controller 38, changes nothing, nor does controller 32.
+// The sensitivity after Data Entry MSB: bend sensitivity is the only registered parameter here. Its LSB, controller 38,
+// changes nothing, nor does controller 32.
 fn data_entry(channel: Channel, v: u8) -> u8
     ensures { λ r. ⌜ r ≡ dataEntry channel v ⌝ }
 {

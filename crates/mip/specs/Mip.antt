@@ -1,4 +1,5 @@
--- Document 01, "MIP table, masks, shares" and "Numbers and what they leave": a MIP message is given as its data bytes after 0B 01.
+-- Document 01, "MIP table, masks, shares" and "Numbers and what they leave": a MIP message is given as its data bytes
+-- after 0B 01.
 use Prim.Native.Nat.{ℕ, _+_, _%_}
 use mathlib.Core.Bool.{_||_}
 use mathlib.Core.List.{List, [], _∷_, _++_}
@@ -19,7 +20,8 @@ pairs [] = []
 pairs (m ∷ []) = []
 pairs (m ∷ v ∷ l) = entry (m + 1) v ∷ pairs l
 
--- "then pair by pair 7, 8, 9, the first found": mm above 15, a channel listed twice, a value below the one before, which is v
+-- "then pair by pair 7, 8, 9, the first found": mm above 15, a channel listed twice, a value below the one before,
+-- which is v
 unfoldable pub faulty : List Entry → ℕ → List Entry → Option ℕ
 faulty before v [] = none
 faulty before v (e ∷ l) =

@@ -1,5 +1,5 @@
-// What a note-off and a controller do to the sound module (document 01, "Other messages"), by value, for every value. Masking stops note-ons and nothing else, so no
-// mask is looked at here. Assumes nothing.
+// What a note-off and a controller do to the sound module (document 01, "Other messages"), by value, for every value.
+// Masking stops note-ons and nothing else, so no mask is looked at here. Assumes nothing.
 ghost use mathlib.Core.Path.{_≡_};
 ghost use Rattle.other_messages.specs.OtherMessages.{notesAfter, playNoteOff, playControl};
 use generators::Generators;
