@@ -5,7 +5,8 @@ ghost use mathlib.Core.Path.{_≡_};
 ghost use Rattle.controllers.specs.Controllers.{dataEntry, stored, reset, controlled, liftsPedal, silencesAll, endsAll};
 use channels::Channel;
 
-// The sensitivity after Data Entry MSB: bend sensitivity is the only registered parameter here. Its LSB, controller 38, changes nothing, nor does controller 32.
+// The sensitivity after Data Entry MSB: bend sensitivity is the only registered parameter here. Its LSB, controller 38,
+// changes nothing, nor does controller 32.
 fn data_entry(channel: Channel, v: u8) -> u8
     ensures { λ r. ⌜ r ≡ dataEntry channel v ⌝ }
 {

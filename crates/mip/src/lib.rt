@@ -57,7 +57,8 @@ fn refuse(number: u8) -> Judged
     }
 }
 
-// Numbers 7 to 9, pair by pair, with a mark for each channel that was listed: the pairs start after the four bytes of the head. A last byte without a partner is not looked at.
+// Numbers 7 to 9, pair by pair, with a mark for each channel that was listed: the pairs start after the four bytes of
+// the head. A last byte without a partner is not looked at.
 fn judge_pairs(parser: Parser) -> Judged
     requires { ⌜ parser .count ≤ 36 ⌝ }
     ensures { λ r. ⌜ r ≡ judgedPairs (pairs (drop 4 (body parser))) ⌝ }

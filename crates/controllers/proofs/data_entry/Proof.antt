@@ -1,4 +1,4 @@
--- `controllers::data_entry` meets its contract: the test for RPN 0/0 is the definition's, and `at_most` is its limit of 24.
+-- `controllers::data_entry` meets its contract: the test for RPN 0/0 is the definition's, and `at_most` its limit.
 -- Assumes nothing.
 use borrow.Author.Needs.{needs}
 use Rattle.controllers.specs.Controllers.{dataEntry}

@@ -1,5 +1,6 @@
--- `controllers::store` meets its contract: in each arm the controller's number picks the definition's line, and behind the last one it is none of them. 98 and 99 are
--- tested as a range, so that the other numbers are those below it and those above.
+-- `controllers::store` meets its contract: in each arm the controller's number picks the definition's line, and behind
+-- the last one it is none of them. 98 and 99 are tested as a range, so that the other numbers are those below it and
+-- those above.
 -- Assumes nothing.
 use mathlib.Core.Bool.{Bool, true, false}
 use mathlib.Core.Logic.{_⊎_, inl, inr, ⊎-elim}
