@@ -5,7 +5,7 @@
 //! ```text
 //! # a remark
 //! in FILE                 what follows is about this file of paper
-//! at CONTEXT «CODE» MORE  a place, which the file must have exactly once, however it is broken into lines;
+//! at CONTEXT «CODE» MORE  a place, which the file must have exactly once, remarks and ends of lines apart;
 //!                         without « and » all of it is the code
 //! Name: OTHER CODE        at that place, one that makes the fault `Name` has this code instead
 //! +Name: STATEMENTS       and this one does these before it
@@ -209,7 +209,7 @@ fn whole_lines(text: &str) -> Vec<String> {
     lines
 }
 
-/// Where a text has this code, whatever blanks and ends of lines are in it; how often, if not once.
+/// Where a text has this code, whatever blanks, ends of lines and remarks are in it; how often, if not once.
 fn found(text: &str, place: &str) -> Result<(usize, usize), usize> {
     let parts: Vec<&str> = place.split(['«', '»']).collect();
     let (context, code) = match parts[..] {
@@ -241,6 +241,14 @@ fn end(text: &str, from: usize, code: &str) -> Option<usize> {
     Some(at)
 }
 
-fn after_blanks(text: &str, at: usize) -> usize {
-    at + text[at..].len() - text[at..].trim_start().len()
+/// Behind blanks and remarks.
+fn after_blanks(text: &str, from: usize) -> usize {
+    let at = text.len() - text[from..].trim_start().len();
+    match text[at..].starts_with("//") {
+        true => after_blanks(
+            text,
+            text[at..].find('\n').map_or(text.len(), |end| at + end),
+        ),
+        false => at,
+    }
 }
