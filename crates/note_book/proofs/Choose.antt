@@ -24,7 +24,7 @@ use Rattle.ages.specs.Ages.{oldestFirst}
 use Rattle.generators.specs.declared.Generators.{Generators}
 use Rattle.generators.specs.Generators.{Generator, at, isIdle, isReleasing, isBusyOn}
 use Rattle.candidates.specs.declared.Found.the-variants.{At}
-use Rattle.candidates.specs.declared.Want.the-variants.{BusyOn}
+use Rattle.candidates.specs.declared.Want.the-variants.{Releasing, BusyOn}
 use Rattle.candidates.specs.Candidates.{found, lowestIdle, wanted, oldest, busyCount}
 use Rattle.stealing.specs.Stealing.{counted, overShare, toLoser, stealFrom, loses, victim}
 use Rattle.allocation.specs.declared.Was.{Was}
