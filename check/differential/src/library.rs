@@ -36,7 +36,7 @@ const NUMBERS: [Number; 21] = [
     Number::SongTooLong,
 ];
 
-/// What the memory holds before a start, which "makes the record, whatever the memory held before", and beside it.
+/// What the memory holds before a start, which makes the record "whatever the memory held before", and beside it.
 pub const RUBBISH: u8 = 0xA5;
 
 /// As much memory on each side as a byte, taken for the number of any element of the record, could reach.
