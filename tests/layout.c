@@ -1,7 +1,7 @@
 /*
  * Holds the record of include/muntinorris.h against the library's own. The header says where a field lies; the library shows it by what it writes and reads:
  *   - a start writes every byte of the record and none beside it, whatever was there before;
- *   - after a call the memory is what it was but for the fields that document 01 names, each at the header's place;
+ *   - after a call the memory is what it was but for the fields that the rules name, each at the header's place;
  *   - a value put at the header's place is what the next call reads;
  *   - each number, state and answer comes under the header's name for it.
  * So it does with the record of a log, whose padding is passed over.

@@ -113,6 +113,6 @@ int main(void)
     for (pattern = 0; pattern < 256; pattern++)
         any_record(pattern);
     if (failures == 0)
-        printf("the page is that of the paper, in %u lengths\n", LONGEST + 1);
+        printf("the page is the one written out here, in %u lengths\n", LONGEST + 1);
     return failures != 0;
 }

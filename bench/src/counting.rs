@@ -12,11 +12,11 @@ use std::hint::black_box;
 /// What a count is held against.
 #[derive(Clone, Copy)]
 enum Target {
-    /// "Theft at most 2,000 instructions, its bytes included."
+    /// A theft at most 2,000 instructions, all its bytes together.
     Theft,
-    /// "A byte that completes nothing at most 100."
+    /// A byte that completes nothing at most 100.
     NothingCompleted,
-    /// "The dearest single byte at most 15,000."
+    /// Any single byte at most 15,000.
     SingleByte,
     /// A pitch at most 100.
     Pitch,

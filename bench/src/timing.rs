@@ -13,7 +13,7 @@ use std::time::Instant;
 const TURNS: usize = 15;
 /// Bytes of a slice: few enough to run mostly without being interrupted.
 const SLICE: usize = 1000;
-/// "Dense notes at most 8 times the reference's time."
+/// Dense notes at most so many times the second implementation's time.
 const TARGET: f64 = 8.0;
 /// The longest song in at most so many milliseconds.
 const SONG_TARGET: f64 = 40.0;

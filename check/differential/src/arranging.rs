@@ -1,5 +1,5 @@
-//! Gives two implementations of ticket 1 the same logs and compares what they yield: the message or the number, and the whole
-//! record after every part. Each message is then played into devices of both sides, which must take it.
+//! Gives both implementations the same logs (R14.1 to R14.10) and compares what they yield: the message or the number,
+//! and the whole record after every part. Each message is then played into devices of both sides, which must take it.
 
 use crate::arranging_sides::{log_difference, Arranger, Reference};
 use crate::compare::same;
@@ -233,8 +233,7 @@ fn words(number: u64, log: &Log, what: &str) -> String {
     )
 }
 
-/// Devices of both sides with random records, the same on both: "our reader must take every message so written and give back
-/// the same order and values".
+/// Devices of both sides with random records, the same on both: each must take every message (R14.7).
 pub struct Readers(Vec<(Device, Lent)>);
 
 const READERS: u64 = 100;

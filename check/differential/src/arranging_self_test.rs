@@ -1,4 +1,4 @@
-//! Shows that the comparison of logs can fail: wrong forms of ticket 1 must be found, and messages that a device does not take.
+//! Shows that the comparison of logs can fail: wrong variants must be found, and messages that a device does not take.
 
 use crate::arranging::{Comparison, Readers};
 use crate::arranging_sides::{Arranger, Reference};

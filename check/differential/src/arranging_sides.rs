@@ -1,5 +1,5 @@
-//! What reads logs in the comparison of ticket 1: the second implementation and the proved library, and the record of a log in
-//! a form that two of them can be compared by.
+//! What reads logs in their comparison: the second implementation and the proved library, and the record of a log in a
+//! form that two of them can be compared by.
 
 use crate::library::{self, GUARD, RUBBISH};
 use crate::record::{difference, Given, Implementation, Malformed, Record, IDLE};
@@ -223,7 +223,7 @@ impl Arranger for LentLog {
         number_of(number)
     }
 
-    /// "The log is not changed", nor what pads it.
+    /// "The record is read and not changed", nor what pads it.
     fn end(&mut self) -> Given<Arranged> {
         let before = self.memory;
         let answer = self.memory.end();
@@ -283,7 +283,7 @@ pub fn number_of(number: u8) -> Given<Option<Number>> {
     }
 }
 
-/// A message, or a number: "beside each of the three numbers stand 38 zero bytes in place of the message".
+/// A message, or a number with 38 zeros (R14.9).
 pub fn arranged_of(raw: MipAnswer) -> Given<Arranged> {
     let message = match number_of(raw.number)? {
         None => Ok(raw.bytes),

@@ -1,4 +1,4 @@
-//! "The note book of demand 3": which notes the device owes, kept from messages, reports and answers alone.
+//! The note book (R9.1 to R9.17): which notes the device owes, kept from messages, reports and answers alone.
 //!
 //! A book can be told to forget one of its rules or to have one wrong (a `Slip`), to show that the checks would notice.
 
@@ -15,7 +15,7 @@ pub struct Note {
     pub down: bool,
 }
 
-/// A rule that a wrong book forgets, or ticket 14's bound in a wrong form.
+/// A rule that a wrong book forgets, or the bound of R13.1 in a wrong form.
 #[derive(Clone, Copy, Debug, PartialEq, Eq)]
 pub enum Slip {
     NoteOff,
@@ -70,7 +70,7 @@ pub enum Seen {
 }
 
 impl Book {
-    /// The fresh book: "no note, hold 0 everywhere and the starting table".
+    /// The fresh book (R9.4).
     pub fn fresh(polyphony: u8, id: u8, slip: Option<Slip>) -> Book {
         let order = [10, 1, 2, 3, 4, 5, 6, 7, 8, 9, 11, 12, 13, 14, 15, 16];
         Book {
@@ -114,13 +114,13 @@ impl Book {
         note.channel == channel && (note.key == key || excludes(channel, key, note.key))
     }
 
-    /// "A channel's count at its note-on above 0."
+    /// R10.4: a channel's count at a note-on.
     pub fn count_at(&self, channel: u8, key: u8) -> usize {
         let kept = |note: &Note| !Book::ended_by(channel, key, *note);
         self.notes_of(channel).filter(kept).count() + 1
     }
 
-    /// Ticket 14: "how many thefts can occur at most" in so many bytes from a fresh device.
+    /// R13.1: the most thefts of so many bytes from a fresh device.
     pub fn most_thefts(&self, bytes: usize) -> usize {
         match self.slip {
             Some(Slip::OneTheftLess) => most_thefts(self.polyphony, bytes).saturating_sub(1),
@@ -142,7 +142,7 @@ impl Book {
         }
     }
 
-    /// "Report of g, answered *done*: a note on g leaves."
+    /// A report and its answer (R9.14).
     pub fn report(&mut self, generator: u8, answer: Answer) {
         if answer == Answer::Done && !self.forgets(Slip::Report) {
             self.notes[usize::from(generator)] = None;
@@ -207,7 +207,7 @@ impl Book {
         }
     }
 
-    /// "A down note goes on the pedal if hold is 64 or more, else leaves."
+    /// R9.10, R9.13: down notes go on the pedal, or leave.
     fn keys_up(&mut self, channel: u8, which: impl Fn(Note) -> bool) {
         let concerned = |note: Note| note.channel == channel && note.down && which(note);
         if self.hold[usize::from(channel)] < 64 {

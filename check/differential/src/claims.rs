@@ -1,4 +1,4 @@
-//! Demand 3's claims, that of the order of age, and ticket 14's of the most thefts, held against what ran.
+//! Demand 3's claims (R10.1 to R10.10), and that of the most thefts (R13.2), held against what ran.
 //!
 //! The book is kept beside the devices; nothing here looks into a device except to compare.
 
@@ -44,7 +44,7 @@ pub struct Claims {
 }
 
 impl Claims {
-    /// The list begins with a start: P and ID as the book has them, "1 and 0 if that was refused".
+    /// The list begins with a start (R10.1): P and ID as the book has them (R9.3).
     pub fn new(polyphony: u8, id: u8, answer: Answer, slip: Option<Slip>) -> Claims {
         let book = match answer {
             Answer::Done => Book::fresh(polyphony, id, slip),
@@ -91,7 +91,7 @@ impl Claims {
         Ok(())
     }
 
-    /// Ticket 14: "no song of n bytes may do worse", for every n up to this byte.
+    /// R13.2: no more thefts than there can be, for every n up to this byte.
     fn most_thefts(&mut self, answer: Answer, exercised: &mut Exercised) -> Result<(), String> {
         let Some(since) = &mut self.since_fresh else {
             return Ok(());
@@ -141,7 +141,7 @@ impl Claims {
         }
     }
 
-    /// A run ends; behind a reset the record is "that of a fresh start".
+    /// A run ends (R10.5); behind a reset the record is fresh (R3.6).
     fn boundary(&mut self, message: &Message) {
         self.within_share = [false; 16];
         if matches!(message, Message::SysEx(bytes) if bytes.first() == Some(&0x7E)) {
@@ -149,7 +149,7 @@ impl Claims {
         }
     }
 
-    /// "A run is any unbroken part of the list": a channel whose notes are now at most its share may begin one here.
+    /// Runs begin anywhere (R10.5): a channel whose notes are now at most its share may begin one here (R10.6).
     fn begin_runs(&mut self) {
         for channel in 0..16 {
             let notes = self.book.notes_of(channel).count();
@@ -158,8 +158,7 @@ impl Claims {
         }
     }
 
-    /// Counts a note-on against the share. "In a run as demand 3 has it, each note-on above 0 of that
-    /// channel answers *note*."
+    /// Counts a note-on against the share (R10.4, R10.6); within it the answer is *note* (R10.7).
     fn count_note_on(
         &mut self,
         channel: u8,
@@ -185,7 +184,7 @@ impl Claims {
         }
     }
 
-    /// "And no note of it leaves as stolen."
+    /// R10.8: it is of a channel that did not keep within its share.
     fn not_within_share(&self, stolen: Note) -> Result<(), String> {
         if self.within_share[usize::from(stolen.channel)] {
             return Err(format!(
@@ -197,8 +196,8 @@ impl Claims {
         Ok(())
     }
 
-    /// "After every event the busy generators are exactly those with a note in the book", and the
-    /// older of two sounding generators is the one whose last *note* answer came earlier.
+    /// R10.2: busy is who has a note in the book; R10.10: the older of two sounding generators is the one whose last
+    /// *note* answer came earlier.
     pub fn record(&self, record: &Record) -> Result<(), String> {
         for (g, view) in record.generators.iter().enumerate() {
             let note = self.book.notes().get(g).copied().flatten();
@@ -238,8 +237,8 @@ fn sounding_are_ordered(record: &Record) -> Result<(), String> {
     Ok(())
 }
 
-/// "Anywhere in the list": a theft or refusal on an unmasked channel needs a note on every generator, none of them
-/// one that the note ends.
+/// R10.9: a theft, or a refusal on an unmasked channel, needs a note on every generator, none of them one that the new
+/// note ends.
 fn justified(
     had: &Book,
     (channel, key): (u8, u8),

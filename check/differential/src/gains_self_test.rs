@@ -1,5 +1,5 @@
-//! Shows that the comparison of gains can fail: wrong forms of the ticket, wrong weights and calls that take the wrong
-//! numbers of a channel must be found; and that it does not ask for more than the ticket does.
+//! Shows that the comparison of gains can fail: wrong variants, wrong weights and calls that take the wrong numbers of
+//! a channel must be found; and that it does not ask for more than R12.7 does.
 
 use crate::channel_gains::{EXPRESSION, NAMES, PAN, THREE, VOLUME};
 use crate::self_test::{variants, Variant};

@@ -1,7 +1,7 @@
-//! Asks for the hardest song of n bytes and holds what comes back against ticket 14, and against the bytes that the library
-//! says its song has: the ticket leaves the song free.
+//! Asks for the hardest song of n bytes and holds what comes back against R13.1, R13.3, R13.4 and R13.6, which leave
+//! the song free, and against the bytes that the library says its song has (R13.5).
 //!
-//! The ticket's number of thefts is that of `paper`, whose song is another one. The bytes that were written are played anew, on
+//! The number of thefts is that of `paper`, whose song is another one. The bytes that were written are played anew, on
 //! both sides' devices.
 
 use crate::compare::same;
@@ -78,7 +78,7 @@ pub struct Compared {
     pub thefts: u64,
 }
 
-/// What a song is held against: the ticket, or the documented bytes as well.
+/// What a song is held against: what every hardest song must do, or the documented bytes (R13.5) as well.
 #[derive(Clone, Copy, Debug, PartialEq, Eq)]
 pub enum HeldAgainst {
     Ticket,
@@ -123,7 +123,7 @@ fn words(call: Call, found: &str) -> String {
     format!("song: P {polyphony}, {n} bytes, buffer of {length} times {fill:02X}: {found}")
 }
 
-/// The answer, if it and what was written are as the ticket says.
+/// The answer, if it and what was written are right, whatever the song.
 fn judge(call: Call, answer: SongAnswer, memory: &Memory) -> Result<Result<u32, Number>, String> {
     let answer = same("answer", reference::song(call), library::song_of(answer))?;
     let n = if answer.is_ok() { call.n } else { 0 };
@@ -134,7 +134,7 @@ fn judge(call: Call, answer: SongAnswer, memory: &Memory) -> Result<Result<u32, 
     Ok(answer)
 }
 
-/// "Write a song of n bytes that reaches it and report the thefts counted while playing it."
+/// R13.3, R13.4: the song makes the most thefts, and as many as were told.
 fn makes_so_many(polyphony: u8, song: &[u8], thefts: u32) -> Result<(), String> {
     let most = most_thefts(polyphony, song.len());
     let played = reference::thefts(polyphony, song);
@@ -271,7 +271,7 @@ pub fn short(polyphony: u8) -> impl Iterator<Item = Call> {
     })
 }
 
-/// "With length 0 the pointer may be anything."
+/// "With length 0 the pointer is not looked at."
 const ADDRESSES: [usize; 4] = [0, 1, 4097, usize::MAX];
 
 /// Calls that lend no buffer, by pointers to nowhere; how many.

@@ -1,5 +1,6 @@
-//! Shows that the comparison of songs can fail: wrong forms of ticket 14 must be found, by the ticket alone; other songs that
-//! the ticket leaves free must pass it, and be found by the documented bytes. Wrong bounds must be found as well.
+//! Shows that the comparison of songs can fail: wrong variants must be found, without a look at the documented bytes
+//! (R13.5); other songs, which R13.3 leaves free, must pass so, and be found by those bytes. Wrong bounds must be found
+//! as well.
 
 use crate::hardest_song::{calls, compare, few_calls, short, Call, HeldAgainst};
 use crate::most_thefts;

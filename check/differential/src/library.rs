@@ -36,13 +36,13 @@ const NUMBERS: [Number; 21] = [
     Number::SongTooLong,
 ];
 
-/// What the memory holds before a start, which "makes the record, whatever the memory held before", and beside it.
+/// What the memory holds before a start, which makes the record "whatever the memory held before", and beside it.
 pub const RUBBISH: u8 = 0xA5;
 
 /// As much memory on each side as a byte, taken for the number of any element of the record, could reach.
 pub const GUARD: usize = 4096;
 
-/// A record with some memory on both sides: the library "writes nothing but the record that it is lent".
+/// A record with some memory on both sides: the library writes nothing but what it is lent.
 #[repr(C)]
 #[derive(Clone)]
 pub struct Lent {
@@ -96,7 +96,7 @@ pub fn start(polyphony: u8, id: u8) -> (Lent, Given<Answer>) {
     (lent, answer_of(answer))
 }
 
-/// Calls on records that no start made: each "still returns, and touches no memory but the record".
+/// Calls on records that no start made: each "still returns, and writes no memory but what it is lent to write".
 pub fn survive_rubbish(random: &mut Random, records: usize) -> Given<()> {
     for _ in 0..records {
         let mut lent = Lent::new(std::array::from_fn(|_| random.byte()));
@@ -280,7 +280,7 @@ fn generators_of(raw: &proved::Generators) -> Given<[GeneratorView; 64]> {
     Ok(generators)
 }
 
-/// A query's answer: its number "and the other fields are then 0", or what it asks for.
+/// A query's answer: its number, "and then the other fields are 0", or what it asks for.
 fn query_of<T>(number: u8, rest: &[u8], value: Option<T>) -> Given<Result<T, Number>> {
     let refused = number_of(number).filter(|_| rest.iter().all(|&field| field == 0));
     match (number, refused, value) {
@@ -294,7 +294,7 @@ pub fn pitch((key, sensitivity, bend): Call) -> Given<Result<Pitch, Number>> {
     pitch_of(proved::pitch(key, sensitivity, bend))
 }
 
-/// A pitch, or a number "with entry 65536 and octave 0".
+/// A pitch, or a number with octave 0 and 65536 (R11.5).
 pub fn pitch_of(raw: proved::PitchAnswer) -> Given<Result<Pitch, Number>> {
     let pitch = Pitch {
         octave: raw.octave,
@@ -311,7 +311,7 @@ pub fn gains((expression, volume, pan): gains::Call) -> Answered {
     gains_of(proved::gains(expression, volume, pan))
 }
 
-/// Gains, or a number with 0 and 0: "both gains are 0", which -0 is not.
+/// Gains, or a number with 0 and 0 (R12.9), which -0 is not.
 pub fn gains_of(raw: proved::GainsAnswer) -> Answered {
     let silent = raw.left.to_bits() == 0 && raw.right.to_bits() == 0;
     match number_of(raw.number) {
@@ -354,7 +354,7 @@ pub fn write_song(call: hardest_song::Call, memory: &mut hardest_song::Memory) -
     proved::write_song(call.polyphony, call.n, memory.buffer())
 }
 
-/// The thefts of a song, or a number with no theft: "a refusal reports 0 thefts".
+/// The thefts of a song, or a number with 0 thefts (R13.6).
 pub fn song_of(raw: SongAnswer) -> Given<Result<u32, Number>> {
     match number_of(raw.number) {
         None if raw.number == 0 => Ok(Ok(raw.thefts)),

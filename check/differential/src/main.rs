@@ -149,7 +149,7 @@ fn differential(options: &Options) -> Result<(), String> {
         missing.push("a case of demand 3".to_string());
     }
     if reached.claims.at_most_thefts == 0 || held.at_the_bound == 0 {
-        missing.push("the most thefts of ticket 14".to_string());
+        missing.push("the most thefts that there can be".to_string());
     }
     missing.extend(reached.pages.missing());
     missing.extend(arranged.missing());
@@ -264,7 +264,7 @@ fn most_thefts(seed: u64) -> Result<Held, String> {
     let clock = Instant::now();
     let held = most_thefts::hold(seed, paper::most_thefts)?;
     println!(
-        "{} lists without reports, {} bytes: never more thefts than ticket 14 says, and as many after {} bytes, {:.1} s",
+        "{} lists without reports, {} bytes: never more thefts than there can be, and as many after {} bytes, {:.1} s",
         held.lists,
         held.bytes,
         held.at_the_bound,
@@ -307,7 +307,7 @@ fn print(reached: &Reached, seconds: f64) {
         reached.claims.thefts_and_refusals
     );
     println!(
-        "ticket 14: {} bytes from fresh devices without reports, {} of them with as many thefts before as there can be",
+        "most thefts: {} bytes from fresh devices without reports, {} of them with as many thefts before as there can be",
         reached.claims.since_fresh, reached.claims.at_most_thefts
     );
 }

@@ -1,7 +1,8 @@
-//! Holds lists without reports, from fresh devices of every P, against ticket 14: "no song of n bytes may do worse".
+//! Holds lists without reports, from fresh devices of every P, against the most thefts that there can be (R13.2).
 //!
-//! Every beginning of a list is a song of so many bytes. Both sides play it, and neither may have made more thefts than the
-//! formula says. Some lists are of the kinds that the comparison feeds, some are made greedily, to steal as much as they can.
+//! Every beginning of a list is a song of so many bytes. Both sides play it, and neither may have made more thefts than
+//! the formula says. Some lists are of the kinds that the comparison feeds, some are made greedily, to steal as much as
+//! they can.
 
 use crate::library::is_theft;
 use crate::lists::{events, Event, Kind};

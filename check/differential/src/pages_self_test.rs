@@ -1,5 +1,5 @@
-//! Shows that the comparison of pages can fail: wrong forms of ticket 2 must be found, on one side, and on both sides alike, where
-//! only the ticket's limit, the memory, the queries and the book can find them.
+//! Shows that the comparison of pages can fail: wrong variants must be found, on one side, and on both sides alike,
+//! where only the limit of R15.7, the memory, the queries and the book can find them.
 
 use crate::compare::{Comparison, Failure};
 use crate::self_test::{variants, Variant};

@@ -1,5 +1,5 @@
-//! The device record as the paper describes it, in a form that two implementations can be compared by,
-//! and what an implementation must offer to be compared.
+//! The device record (R1.11) in a form that two implementations can be compared by, and what an implementation must
+//! offer to be compared.
 
 use crate::gains::Answered;
 use crate::pages::Memory;
@@ -114,7 +114,7 @@ fn first_of<T: PartialEq + std::fmt::Debug>(
     field(&format!("{name} {}", at + base), &a[at], &b[at])
 }
 
-/// An implementation of the paper.
+/// An implementation of the device.
 pub trait Implementation: Clone {
     fn byte(&mut self, byte: u8) -> Given<Answer>;
     fn report(&mut self, generator: u8) -> Given<Answer>;

@@ -1,4 +1,4 @@
-//! The book's own splitting of the bytes into complete messages, by the rules of "Bytes".
+//! The book's own splitting of the bytes into complete messages, by section 4 of the rules (R9.1).
 //!
 //! It collects the bytes of the message under way and asks, at each byte, whether it is complete. No
 //! state of a device is used.

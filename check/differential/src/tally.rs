@@ -17,7 +17,7 @@ const REPORTS: [&str; 3] = [
     "report of a releasing one",
 ];
 
-/// Document 01's numbers, each one place before its own, and those of pitches, gains, songs, logs and pages behind them.
+/// Numbers 1 to 14, each one place before its own, and those of pitches, gains, songs, logs and pages behind them.
 const NUMBERS: [(Number, &str); 21] = [
     (Number::PolyphonyOutOfRange, "P not 1 to 64"),
     (Number::IdOutOfRange, "ID above 126"),

@@ -1,4 +1,4 @@
-//! What can be wrong about a log beside the ticket's rules (that is in `wrong`): the parts as they are taken, the record,
+//! What can be wrong about a log beside its rules (that is in `wrong`): the parts as they are taken, the record,
 //! what is answered, and the call for a whole log.
 
 use crate::arranging_sides::{arranged_of, kept, number_of, Arranger, Heard, LogRecord};

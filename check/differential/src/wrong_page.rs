@@ -18,7 +18,7 @@ pub enum Slip {
     LengthIgnored,
     /// The number instead of this one.
     Number(fn(u8) -> u8),
-    /// What a refusal does with the page and the buffer, which "is then left untouched", and where that ends.
+    /// What a refusal does with the page and the buffer, which must stay (R15.7), and where that ends.
     Left(fn(&[u8], &mut Memory, isize)),
     /// Where a byte of the page goes, by its place, in a buffer of this length.
     Put(fn(usize, u8, usize) -> Option<usize>),

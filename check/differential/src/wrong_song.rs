@@ -130,7 +130,7 @@ pub const SLIPS: &[(&str, Slip)] = &[
     ("TheftsOfTheLength", Slip::Thefts(|call, _| formula(call.polyphony, call.length))),
 ];
 
-/// Songs that are not the documented one, and right by the ticket; more of them are in `wrong`.
+/// Songs that are not the documented one (R13.5), and right by R13.3; more of them are in `wrong`.
 #[rustfmt::skip]
 pub const FREE_SLIPS: &[(&str, Slip)] = &[
     ("LastByteOfTheLongestMissing", Slip::Put(|_, place| (place + 1 != LONGEST_SONG).then_some(place))),

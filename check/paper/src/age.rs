@@ -1,5 +1,4 @@
-//! The order of age among the sounding generators: "a generator is older than another if its
-//! assignment came earlier, in a history of any length".
+//! The order of age among the sounding generators (R1.6, R1.7): who was assigned earlier is older.
 //!
 //! A doubly linked ring through two byte arrays, so that a note begins and ends in constant time
 //! and no counter can wrap.

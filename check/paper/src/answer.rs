@@ -1,6 +1,6 @@
-//! What a call answers: the paper's *note*, *done*, *none*, or one of its numbers 1 to 14; and the numbers of document 02's tickets 1, 2, 7, 13 and 14.
+//! What a call answers: *note*, *done*, *none*, or a number.
 
-/// "What the generator was" before a note took it.
+/// What a generator was before a note took it (R4.11).
 #[derive(Clone, Copy, Debug, PartialEq, Eq)]
 pub enum Was {
     Idle,
@@ -8,7 +8,7 @@ pub enum Was {
     Stolen,
 }
 
-/// The table "Numbers and what they leave", and the numbers of a log that yields no message, of a page that has no room, of a refused pitch, of refused gains and of a refused song.
+/// The numbers: R8.n is number n.
 #[derive(Clone, Copy, Debug, PartialEq, Eq)]
 #[repr(u8)]
 pub enum Number {
@@ -35,7 +35,7 @@ pub enum Number {
     SongTooLong = 25,
 }
 
-/// "The answer is *note*, *done*, *none*, or a number." Channels count from 1 to 16 here, as in the paper.
+/// R4.11 to R4.13: *note*, *done*, *none*, or a number. Channels count from 1 to 16 here.
 #[derive(Clone, Copy, Debug, PartialEq, Eq)]
 pub enum Answer {
     None,
@@ -47,7 +47,7 @@ pub enum Answer {
         was: Was,
     },
     Refused(Number),
-    /// Numbers 10 and 11 "give channel and key".
+    /// Numbers 10 and 11 have channel and key (R16.4).
     NoteRefused {
         number: Number,
         channel: u8,
@@ -56,7 +56,7 @@ pub enum Answer {
 }
 
 impl Answer {
-    /// The paper's number, or `None` for an answer that is no refusal.
+    /// The number, or `None` for an answer that is no refusal.
     pub fn number(self) -> Option<Number> {
         match self {
             Answer::Refused(number) | Answer::NoteRefused { number, .. } => Some(number),

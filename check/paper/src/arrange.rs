@@ -1,4 +1,4 @@
-//! Document 02, ticket 1: the MIP message of a song, worked out from the log that its arranger has.
+//! The MIP message of a song, worked out from the log that its arranger has (R14.1 to R14.10).
 //!
 //! The log is read as it comes and nothing of it is kept but the line that has not ended, so that a line costs the same
 //! wherever it stands.
@@ -7,18 +7,18 @@ use crate::answer::{Answer, Number};
 use crate::device::Device;
 use crate::parser::Progress;
 
-/// "Run on a fresh device with P 64 and ID 0."
+/// R14.2: the fresh device that plays the log.
 const POLYPHONY: u8 = 64;
 const ID: u8 = 0;
 
-/// "The 38-byte message."
+/// R14.4: the message's length.
 pub const MESSAGE_BYTES: usize = 38;
-/// "Each line ended by byte 0AH."
+/// R14.1: what ends a line.
 const LINE_END: u8 = 0x0A;
 /// So many bytes of a line are kept. A right line has five at most, so that what is cut off cannot make one right.
 pub const LINE_BYTES: usize = 7;
 
-/// "One line per event."
+/// What a line says (R14.1).
 #[derive(Clone, Copy, Debug, PartialEq, Eq)]
 pub enum Event {
     Byte(u8),
@@ -27,7 +27,7 @@ pub enum Event {
 }
 
 impl Event {
-    /// "`b,` and a byte 0 to 255, or `e,` and an ended generator 0 to 63": a line without its 0AH.
+    /// R14.1: a line without its 0A, `b,` and a byte or `e,` and a generator.
     pub fn read(line: &[u8]) -> Option<Event> {
         match line {
             [b'b', b',', digits @ ..] => decimal(digits, 255).map(Event::Byte),
@@ -37,7 +37,7 @@ impl Event {
     }
 }
 
-/// "Decimal without leading zeros", at most this.
+/// R14.1: a decimal number without leading zeros, at most this.
 fn decimal(digits: &[u8], most: u16) -> Option<u8> {
     let (first, rest) = digits.split_first()?;
     let leading_zero = *first == b'0' && !rest.is_empty();
@@ -97,7 +97,7 @@ pub struct Log {
 }
 
 impl Log {
-    /// A log for this order, which is "looked at before the log".
+    /// A log for this order, which is judged before the log (R8.16).
     pub fn begin(order: &[u8]) -> Log {
         let right = order_of_all(order);
         Log {
@@ -121,7 +121,7 @@ impl Log {
         self.number
     }
 
-    /// "Of 15 and 17 the earlier line decides": behind a number lines end, and that is all.
+    /// R14.6: the first number decides. Behind it lines end, and that is all.
     #[inline]
     fn line_ends(&mut self) {
         let line = std::mem::replace(&mut self.line, Line::EMPTY);
@@ -148,7 +148,7 @@ impl Log {
         Ok(())
     }
 
-    /// "Where a MIP message with device byte 7F or 0 ends, accepted or not."
+    /// R14.6: does a MIP message for 7F or 0 end here, accepted or not?
     fn ends_mip(&self, event: Event) -> bool {
         let parser = self.device.parser();
         event == Event::Byte(0xF7)
@@ -156,7 +156,7 @@ impl Log {
             && matches!(parser.sysex().kept(), [0x7F, 0x7F | ID, 0x0B, 0x01, ..])
     }
 
-    /// "A note is stolen or number 11 falls": only where every generator is busy; there the event is tried on a copy.
+    /// R14.6: a theft or number 11. Only where every generator is busy; there the event is tried on a copy.
     fn loses_note(&self, event: Event) -> bool {
         if !self.device.is_full() {
             return false;
@@ -166,7 +166,7 @@ impl Log {
         answer.is_theft() || answer.number() == Some(Number::NoneToSteal)
     }
 
-    /// "The largest number of busy generators ever seen after a line on that channel and those before it."
+    /// R14.5: the most busy generators so far, on each channel and those before it together.
     fn count(&mut self) {
         let mut busy = 0;
         for (most, channel) in self.most.iter_mut().zip(self.order) {
@@ -175,7 +175,7 @@ impl Log {
         }
     }
 
-    /// What the log yields if it ends here. A line without its 0AH is one "of another form".
+    /// What the log yields if it ends here. A line without its 0A is of another form (R14.1).
     pub fn end(&self) -> Arranged {
         match (self.number, self.line.count) {
             (Some(number), _) => Arranged {
@@ -212,7 +212,7 @@ fn take(device: &mut Device, event: Event) -> Answer {
     }
 }
 
-/// The order, if it is "all sixteen channels once".
+/// The order, if it has each of the sixteen channels once (R14.3).
 fn order_of_all(order: &[u8]) -> Option<[u8; 16]> {
     let order: [u8; 16] = order.try_into().ok()?;
     let all = (1..=16).all(|channel| order.contains(&channel));

@@ -1,6 +1,6 @@
-//! What a channel remembers: its "eleven numbers", and what controllers do to them.
+//! What a channel remembers, its eleven numbers (R1.8), and what controllers do to them.
 
-/// Controller numbers of MIDI 1.0 that the paper stores or acts on.
+/// Controller numbers of MIDI 1.0 that the device stores or acts on.
 pub(crate) mod controller {
     pub const MODULATION: u8 = 1;
     pub const DATA_ENTRY_MSB: u8 = 6;
@@ -17,12 +17,12 @@ pub(crate) mod controller {
     pub const ALL_NOTES_OFF: u8 = 123;
 }
 
-/// "6 with RPN 0/0 stores the sensitivity, 24 if above 24."
+/// R6.9: the highest bend sensitivity.
 const WIDEST_BEND: u8 = 24;
 /// The value of an RPN number that names no parameter.
 const RPN_NULL: u8 = 127;
 
-/// The eleven numbers in the paper's order.
+/// The eleven numbers in the order of R1.8.
 #[derive(Clone, Copy, Debug, PartialEq, Eq)]
 pub struct Channel {
     pub program: u8,
@@ -39,7 +39,7 @@ pub struct Channel {
 }
 
 impl Channel {
-    /// "Every channel starts with 0, 0, 100, 64, 127, 0, 127, 127, 64, 0, 2."
+    /// R1.9: how every channel starts.
     pub const FRESH: Channel = Channel {
         program: 0,
         modulation: 0,
@@ -54,12 +54,12 @@ impl Channel {
         bend_sensitivity: 2,
     };
 
-    /// Is the pedal down: "hold is 64 or more"?
+    /// Is the pedal down (R6.3)?
     pub fn pedal_down(&self) -> bool {
         self.hold >= 64
     }
 
-    /// Stores a controller's value where the paper stores it. Every other controller changes none of the eleven.
+    /// Stores a controller's value (R6.6, R6.8, R6.9). Every other controller changes none of the eleven (R6.13).
     pub(crate) fn store(&mut self, number: u8, value: u8) {
         match number {
             controller::MODULATION => self.modulation = value,
@@ -77,7 +77,7 @@ impl Channel {
         }
     }
 
-    /// "121, value 0: modulation 0, expression 127, hold 0, RPN 127/127, bend 64/0."
+    /// R6.11: what 121 resets.
     pub(crate) fn reset_controllers(&mut self) {
         self.modulation = Self::FRESH.modulation;
         self.expression = Self::FRESH.expression;
@@ -92,7 +92,7 @@ impl Channel {
         self.rpn_lsb = RPN_NULL;
     }
 
-    /// The eleven numbers as an array, in the paper's order.
+    /// The eleven numbers as an array, in the order of R1.8.
     pub fn numbers(&self) -> [u8; 11] {
         [
             self.program,

@@ -23,7 +23,7 @@ pub struct Device {
 }
 
 impl Device {
-    /// Starts a device. A refused start leaves a "fresh record, P 1, ID 0".
+    /// Starts a device. A refused start leaves a fresh record with P 1 and own ID 0 (R8.1, R8.2).
     pub fn start(polyphony: u8, id: u8) -> (Device, Answer) {
         let refused = |number| (Device::fresh(1, 0), Answer::Refused(number));
         if !(1..=64).contains(&polyphony) {
@@ -93,7 +93,7 @@ impl Device {
         Answer::Done
     }
 
-    /// "Note-on, velocity above 0", steps 1 to 5.
+    /// A note-on with a velocity above 0, steps 1 to 5 (R5.1 to R5.11).
     fn note_on(&mut self, channel: u8, key: u8) -> Answer {
         let refused = |number| Answer::NoteRefused {
             number,
@@ -125,8 +125,8 @@ impl Device {
         }
     }
 
-    /// Step 5: "count each channel's busy generators, with the new note. Among channels over their
-    /// share take that of lowest priority. Its oldest busy generator is stolen."
+    /// Step 5 (R5.7 to R5.10): of the channels above their share, the new note counted, the one of lowest priority
+    /// loses its oldest busy generator, if it has one.
     fn victim(&self, new_note: u8) -> Option<u8> {
         let over = |&(channel, share): &(u8, u8)| {
             self.generators.busy_count(channel) + u8::from(channel == new_note) > share
@@ -135,7 +135,7 @@ impl Device {
         self.generators.oldest_busy(loser)
     }
 
-    /// "On channel 10 it changes nothing; a drum ends by its report."
+    /// R6.2; R6.4: on channel 10 it does nothing.
     fn note_off(&mut self, channel: u8, key: u8) {
         if channel != DRUM_CHANNEL {
             let pedal_down = self.channels[usize::from(channel)].pedal_down();
@@ -189,7 +189,7 @@ impl Device {
         }
     }
 
-    /// "An accepted message replaces the table. Busy generators of newly masked channels become releasing."
+    /// An accepted message is the table from now on (R2.7); who is busy on a channel that it masks releases (R2.8).
     fn replace_table(&mut self, table: Table) -> Answer {
         self.table = table;
         for channel in 0..16 {
@@ -201,7 +201,7 @@ impl Device {
     }
 }
 
-/// "Queries change nothing. A refused query gives its number only."
+/// The queries (R7.3 to R7.6).
 impl Device {
     /// A generator's state, channel (from 1) and key.
     pub fn generator(&self, generator: u8) -> Result<GeneratorView, Number> {
@@ -216,7 +216,7 @@ impl Device {
         Ok(self.table.share(wire(channel)?).is_none())
     }
 
-    /// The share of a channel, 1 to 16, "0 if masked".
+    /// The share of a channel, 1 to 16, 0 for a masked one (R7.6).
     pub fn share(&self, channel: u8) -> Result<u8, Number> {
         Ok(self.table.share(wire(channel)?).unwrap_or(0))
     }
@@ -229,7 +229,7 @@ fn wire(channel: u8) -> Result<u8, Number> {
     }
 }
 
-/// What tickets 1 and 2 count.
+/// What a log and a page count (R14.5, R15.3).
 impl Device {
     /// How many generators of a channel on the wire are held or sustained.
     pub(crate) fn busy_count(&self, channel: u8) -> u8 {

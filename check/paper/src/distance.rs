@@ -16,7 +16,7 @@ const BIAS: u32 = 150;
 pub struct Distance(u64);
 
 impl Distance {
-    /// "Within one millionth of the exact fraction."
+    /// R12.7: at most one millionth off?
     pub fn is_within_one_millionth(self) -> bool {
         self.0 <= Gain::DENOMINATOR
     }

@@ -1,4 +1,4 @@
-//! The exclusive groups of channel 10: "42 44 46, 71 72, 73 74, 78 79, 80 81".
+//! The exclusive groups of channel 10 (R5.4).
 
 /// Each drum key that excludes others, with the number of its group.
 const GROUPS: [(u8, u8); 11] = [

@@ -1,4 +1,4 @@
-//! Document 02, ticket 13: the gains of a channel for the mixer, each as an exact fraction.
+//! The gains of a channel for the mixer (R12.1 to R12.9), each as an exact fraction.
 
 use crate::answer::Number;
 
@@ -6,11 +6,10 @@ use crate::answer::Number;
 const HIGHEST: u8 = 127;
 /// The last place of the table; the weights at p and at 126 - p belong together.
 const LAST: usize = 126;
-/// A weight is "W / 32768".
+/// A weight is over this (R12.6).
 const WHOLE_WEIGHT: u32 = 32768;
 
-/// "Nearest to 32768 × sin(pi × p / 252)", from hard left in fourteens. tests/gains.rs holds every weight against
-/// these words.
+/// R12.4, from hard left in fourteens. tests/gains.rs holds every weight against the sine.
 #[rustfmt::skip]
 pub static WEIGHTS: [u32; LAST + 1] = [
     0, 408, 817, 1225, 1633, 2041, 2449, 2856, 3263, 3669, 4074, 4480, 4884, 5287,
@@ -32,7 +31,7 @@ pub struct Gain {
 }
 
 impl Gain {
-    /// Of "both squares times the weight": 127 to the fourth power times 32768.
+    /// Of both squares and the weight (R12.1, R12.6): 127 to the fourth power times 32768.
     pub const DENOMINATOR: u64 = (HIGHEST as u64).pow(4) * WHOLE_WEIGHT as u64;
 }
 
@@ -44,14 +43,14 @@ pub struct Gains {
 }
 
 impl Gains {
-    /// "Refused calls give 0 and 0", beside their number.
+    /// R12.9: what stands beside number 24.
     pub const REFUSED: Gains = Gains {
         left: Gain { numerator: 0 },
         right: Gain { numerator: 0 },
     };
 }
 
-/// The places of the left and the right weight for a pan from 0 to 127, which "has 1 taken off if above 0".
+/// The places of the left and the right weight for a pan from 0 to 127, which is lowered first (R12.2, R12.6).
 fn places(pan: u8) -> (usize, usize) {
     let p = usize::from(pan.saturating_sub(1));
     (LAST - p, p)

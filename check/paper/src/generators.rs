@@ -5,10 +5,10 @@
 use crate::age::AgeOrder;
 use crate::drums;
 
-/// "Polyphony P, 1 to 64."
+/// R1.1: the most that P can be.
 pub const MOST_GENERATORS: usize = 64;
 
-/// "A generator is idle, held (key down), sustained (key up, pedal down) or releasing."
+/// R1.3: what a generator can be.
 #[derive(Clone, Copy, Debug, PartialEq, Eq)]
 pub enum State {
     Idle,
@@ -17,7 +17,7 @@ pub enum State {
     Releasing,
 }
 
-/// What the query of a generator gives. Channel counts from 1; "an idle one carries channel 0 and key 0".
+/// What the query of a generator gives (R7.4). Channel counts from 1; an idle one has 0 and 0 (R1.5).
 #[derive(Clone, Copy, Debug, PartialEq, Eq)]
 pub struct GeneratorView {
     pub state: State,
@@ -89,24 +89,24 @@ impl Generators {
         self.busy() == self.all
     }
 
-    /// "The idle generator of lowest number."
+    /// R5.5: of the idle ones that of lowest number.
     pub(crate) fn lowest_idle(&self) -> Option<u8> {
         let idle = self.all & !self.sounding();
         (idle != 0).then(|| idle.trailing_zeros() as u8)
     }
 
-    /// "The oldest releasing one."
+    /// R5.6: the oldest that releases.
     pub(crate) fn oldest_releasing(&self) -> Option<u8> {
         self.age.oldest_of(self.releasing).map(|g| g as u8)
     }
 
-    /// A channel's "oldest busy generator".
+    /// R5.9: the oldest of a channel's busy ones.
     pub(crate) fn oldest_busy(&self, channel: u8) -> Option<u8> {
         let set = self.busy() & self.of_channel[usize::from(channel)];
         self.age.oldest_of(set).map(|g| g as u8)
     }
 
-    /// Gives a generator of any state a new note: "the note is then held and is the newest".
+    /// Gives a generator of any state a new note, held and the newest (R5.11).
     pub(crate) fn assign(&mut self, generator: u8, channel: u8, key: u8) {
         let g = usize::from(generator);
         if self.is_sounding(generator) {
@@ -146,14 +146,13 @@ impl Generators {
             .fold(0, |found, g| found | 1 << g)
     }
 
-    /// Note-on, step 2: "a busy generator of this channel and key becomes releasing".
+    /// Note-on, step 2 (R5.2): who is busy with this channel and key releases.
     pub(crate) fn release_key(&mut self, channel: u8, key: u8) {
         let busy = self.busy() & self.of_channel[usize::from(channel)];
         self.release(self.with_key(busy, key));
     }
 
-    /// Note-on, step 3: sounding generators of the channel "with another key of the same exclusive
-    /// group become idle".
+    /// Note-on, step 3 (R5.3): other keys of the same group fall idle on this channel.
     pub(crate) fn silence_group(&mut self, channel: u8, key: u8) {
         let Some(group) = drums::group(key) else {
             return;
@@ -165,14 +164,13 @@ impl Generators {
         }
     }
 
-    /// Note-off: "a held generator of that channel and key becomes sustained if hold is 64 or more,
-    /// else releasing".
+    /// Note-off (R6.2): held generators of this channel and key are sustained by the pedal, or release.
     pub(crate) fn key_up(&mut self, channel: u8, key: u8, pedal_down: bool) {
         let held = self.held & self.of_channel[usize::from(channel)];
         self.let_go(self.with_key(held, key), pedal_down);
     }
 
-    /// 123: "each held generator is treated as by note-off".
+    /// 123 (R6.12): each held generator as by its note-off.
     pub(crate) fn all_keys_up(&mut self, channel: u8, pedal_down: bool) {
         self.let_go(
             self.held & self.of_channel[usize::from(channel)],
@@ -189,17 +187,17 @@ impl Generators {
         }
     }
 
-    /// The pedal comes up: "the channel's sustained generators" become releasing.
+    /// The pedal comes up (R6.7, R6.11): what it sustained releases.
     pub(crate) fn pedal_up(&mut self, channel: u8) {
         self.release(self.sustained & self.of_channel[usize::from(channel)]);
     }
 
-    /// The channel is masked: its busy generators "become releasing, pedal or not".
+    /// The channel is masked (R2.8): its busy generators release, whatever the pedal.
     pub(crate) fn release_channel(&mut self, channel: u8) {
         self.release(self.busy() & self.of_channel[usize::from(channel)]);
     }
 
-    /// 120: "all sounding generators of the channel become idle".
+    /// 120 (R6.10): the channel's generators fall idle.
     pub(crate) fn silence_channel(&mut self, channel: u8) {
         for g in members(self.of_channel[usize::from(channel)]) {
             self.forget(g);

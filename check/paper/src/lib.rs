@@ -1,12 +1,10 @@
-//! Document 01, "The note allocator of a scalable polyphony module", and tickets 1, 2, 7, 13 and 14 of document 02, the MIP
-//! message from a song's log, the service page, the pitch of a note, the gains of a channel and the hardest song, written by
-//! hand in plain Rust.
+//! A second implementation, by hand in plain Rust, of the device, the pitch of a note, the gains of a channel, the
+//! hardest song, the MIP message from a song's log and the service page: sections 1 to 8 and 11 to 15 of docs/RULES.md.
 //!
-//! This is a second implementation, made from the papers alone. It serves as the other side of the
-//! differential test and as the baseline of the benchmark, so it is written as for a small sound
-//! module: fixed arrays, bit sets for the generators, no allocation, no panic on any input.
+//! It serves as the other side of the differential test and as the baseline of the benchmark, so it is written as for a
+//! small sound module: fixed arrays, bit sets for the generators, no allocation, no panic on any input.
 //!
-//! Quoted words in the comments are the papers'.
+//! Numbers such as R5.6 are rules of that page. What this was written from is in check/README.md.
 
 mod age;
 mod answer;

@@ -1,25 +1,24 @@
-//! Document 02, ticket 2: the service page, the state of a device as text.
+//! The service page, the state of a device as text (R15.1 to R15.7).
 
 use crate::answer::Number;
 use crate::device::Device;
 
-/// "17 lines of 18 characters, each ended by byte 0AH."
+/// R15.1: the page's lines, the characters of each, and what ends it.
 const LINES: usize = 17;
 const CHARACTERS: usize = 18;
 const LINE_END: u8 = 0x0A;
 const LINE_BYTES: usize = CHARACTERS + 1;
-/// "323 bytes in all."
+/// R15.1: 323.
 pub const PAGE_BYTES: usize = LINES * LINE_BYTES;
 
-/// "The head", and below it the columns of every line.
+/// R15.2: the first line; below it stand the columns of every other one.
 const HEAD: &[u8; CHARACTERS] = b"CH PR VAL SHR M NT";
 
-/// What a field without a number is "filled with".
+/// R15.6: what fills a field without a number.
 const NOTHING: u8 = b'-';
 
 impl Device {
-    /// Writes the page to the front of the buffer. "Bytes after the 323rd keep their content"; a shorter buffer "is then left
-    /// untouched".
+    /// Writes the page to the front of the buffer and nothing behind it, nor anything to a shorter one (R15.7).
     pub fn page(&self, buffer: &mut [u8]) -> Result<(), Number> {
         let Some(page) = buffer.first_chunk_mut::<PAGE_BYTES>() else {
             return Err(Number::PageTooShort);
@@ -51,7 +50,7 @@ impl Device {
     }
 }
 
-/// "Numbers are right-aligned with blanks": the blanks are there already.
+/// R15.4: a number ends where its field ends; the blanks are there already.
 fn put(field: &mut [u8], number: Option<u8>) {
     let Some(mut left) = number else {
         field.fill(NOTHING);

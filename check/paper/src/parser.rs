@@ -1,4 +1,4 @@
-//! "Bytes": what each byte of the wire means, running status and System Exclusive included.
+//! What each byte of the wire means, running status and System Exclusive included (R4.1 to R4.10).
 
 /// Bytes of a SysEx that its head takes: 7F *d* 0B 01 or 7E *d* 09 01.
 pub const HEAD_BYTES: usize = 4;
@@ -100,7 +100,7 @@ impl Parser {
         match byte {
             0x00..=0x7F => self.data(byte),
             0x80..=0xF7 => self.status(byte),
-            // "F8 to FF: no effect anywhere, inside SysEx too."
+            // R4.1: they do nothing, wherever they come.
             0xF8..=0xFF => Completed::Nothing,
         }
     }
@@ -137,8 +137,7 @@ impl Parser {
         }
     }
 
-    /// "An unfinished message is dropped silently when another status below F8 comes", but "a status
-    /// below F7 inside SysEx gives number 4 and is then taken as usual".
+    /// A status below F8 drops what is not complete (R4.4); a SysEx that it cuts has number 4 (R4.9).
     fn status(&mut self, byte: u8) -> Completed {
         let in_sysex = self.progress == Progress::SysEx;
         self.progress = match byte {
@@ -159,7 +158,7 @@ impl Parser {
     }
 }
 
-/// "C0 and D0 kinds have one data byte, the others two."
+/// R4.3: does a channel message take two data bytes, or one?
 fn takes_two(status: u8) -> bool {
     !matches!(status & 0xF0, 0xC0 | 0xD0)
 }

@@ -1,15 +1,14 @@
-//! Document 02, ticket 7: the pitch of a note, an octave and an entry of a table that covers one octave.
+//! The pitch of a note (R11.1 to R11.5), an octave and an entry of a table that covers one octave.
 
 use crate::answer::Number;
 
-/// Steps of a semitone: positions count "sixteenths of a semitone".
+/// Steps of a semitone: positions count its sixteenths (R11.1).
 const SEMITONE: i32 = 16;
 const OCTAVE: i32 = 12 * SEMITONE;
 /// The bend at rest, and how far it goes from there.
 const CENTRE: i32 = 8192;
 
-/// "Entry i is the largest whole number whose 192nd power is at most 2 to the power 3072 + i", a semitone in
-/// each row. tests/pitch.rs holds every entry against these words.
+/// R11.2, a semitone in each row. tests/pitch.rs holds every entry against the rule.
 #[rustfmt::skip]
 const ENTRIES: [u32; OCTAVE as usize] = [
     65536, 65773, 66010, 66249, 66489, 66729, 66971, 67213, 67456, 67700, 67945, 68190, 68437, 68685, 68933, 69182,
@@ -36,7 +35,7 @@ pub struct Pitch {
 }
 
 impl Pitch {
-    /// "Refused calls answer octave 0 and 65536", beside their number.
+    /// R11.5: what stands beside number 21.
     pub const REFUSED: Pitch = Pitch {
         octave: 0,
         entry: 65536,

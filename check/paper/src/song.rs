@@ -1,19 +1,19 @@
-//! Document 02, ticket 14: the hardest song of n bytes, and the thefts that it makes.
+//! The hardest song of n bytes, and the thefts that it makes (R13.1 to R13.4, R13.6).
 
 use crate::answer::Number;
 use crate::device::Device;
 
-/// "n bytes (0 to 65,536)."
+/// R13.3: the most bytes of a song.
 pub const LONGEST_SONG: usize = 65_536;
 
-/// "How many thefts can occur at most: the floor of (n − 1) / 2, less P, and 0 where that is negative or n is 0."
+/// R13.1: the most thefts that n bytes can make.
 pub fn most_thefts(polyphony: u8, n: usize) -> usize {
     let notes = n.saturating_sub(1) / 2;
     notes.saturating_sub(usize::from(polyphony))
 }
 
-/// Note-on, channel 10, once: running status carries it on. The drums need no share of their own to lose a note, since the
-/// new one counts.
+/// Note-on, channel 10, once: running status carries it on. The drums need no share of their own to lose a note, since
+/// the new one counts.
 const STATUS: u8 = 0x99;
 /// Drums from here on, over 127 and 0 up to 41, are in no exclusive group, which would free a generator.
 const FIRST_KEY: usize = 82;
@@ -33,8 +33,8 @@ fn byte_at(place: usize) -> u8 {
     }
 }
 
-/// Writes the song to the first n bytes of the buffer and gives "the thefts counted while playing it" on a fresh device.
-/// Number 1 comes before 25; refused, "the buffer is then untouched".
+/// Writes the song to the first n bytes of the buffer and gives the thefts counted on a fresh device (R13.3, R13.4).
+/// Number 1 comes before 25; both leave the buffer as it was (R13.6).
 pub fn write_song(polyphony: u8, n: usize, buffer: &mut [u8]) -> Result<u32, Number> {
     let (mut device, answer) = Device::start(polyphony, 0);
     if let Some(number) = answer.number() {

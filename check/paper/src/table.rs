@@ -10,14 +10,14 @@ use crate::parser::PAIR_BYTES;
 pub struct Entry {
     /// The channel minus 1.
     pub channel: u8,
-    /// "The polyphony needed by that channel and all before it."
+    /// R2.1: what this channel and all before it need together.
     pub value: u8,
 }
 
 /// The share of a channel that has none.
 const MASKED: u8 = 255;
 
-/// "At start, the order is 10, 1 to 9, 11 to 16."
+/// R2.6: the order at the start.
 const STARTING_ORDER: [u8; 16] = [9, 0, 1, 2, 3, 4, 5, 6, 7, 8, 10, 11, 12, 13, 14, 15];
 
 #[derive(Clone, Copy, Debug)]
@@ -31,7 +31,7 @@ pub struct Table {
 }
 
 impl Table {
-    /// The starting table: all sixteen channels with value P.
+    /// The starting table (R2.6): all sixteen channels with value P.
     pub(crate) fn starting(polyphony: u8) -> Table {
         let entries = STARTING_ORDER.map(|channel| Entry {
             channel,
@@ -40,8 +40,7 @@ impl Table {
         Table::new(entries, 16, polyphony)
     }
 
-    /// "A listed channel is unmasked if its value is at most P. The share of an unmasked channel is
-    /// its value minus the value before it (0 before the first)."
+    /// Who is unmasked (R2.2, R2.3), and the shares (R2.4, R2.5).
     fn new(entries: [Entry; 16], length: u8, polyphony: u8) -> Table {
         let mut table = Table {
             entries,
@@ -61,7 +60,7 @@ impl Table {
         table
     }
 
-    /// Judges the pairs of a MIP message, at most 32 bytes: "6, then pair by pair 7, 8, 9, the first found".
+    /// Judges the pairs of a MIP message, at most 32 bytes: 6 first, then pair by pair 7, 8, 9 (R3.4, R3.5).
     pub(crate) fn read(pairs: &[u8], polyphony: u8) -> Result<Table, Number> {
         if pairs.is_empty() || pairs.len() % 2 == 1 {
             return Err(Number::MipOddOrEmpty);

@@ -1,4 +1,4 @@
-//! Document 02, ticket 1: each sentence about the MIP message from a song's log. Counts are taken here once more, generator by
+//! The MIP message from a song's log, rule by rule (R14.1 to R14.10). Counts are taken here once more, generator by
 //! generator, after every line.
 
 mod common;
@@ -414,7 +414,7 @@ fn all_counts(events: &[Event], order: &[u8; 16]) -> (Vec<[u8; 16]>, bool) {
     (counts, false)
 }
 
-/// "With any value above 0 made one lower some line of the log would exceed it", and as it stands none does.
+/// R14.8: no line exceeds a value, and none can be lower.
 #[test]
 fn values_are_as_low_as_they_can_be() {
     let mut random = Random::new(1);
@@ -453,7 +453,7 @@ fn values_are_as_low_as_they_can_be() {
     );
 }
 
-/// "Our reader must take every message so written and give back the same order and values."
+/// R14.7: the table then has the message's order and values.
 #[test]
 fn every_message_is_taken_from_any_record() {
     let mut random = Random::new(2);

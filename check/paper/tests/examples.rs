@@ -1,4 +1,4 @@
-//! The paper's listing and its examples P1 to P9.
+//! The lines of the sample listing (R16.3, R16.4), and examples P1 to P9 of the rules.
 
 mod common;
 

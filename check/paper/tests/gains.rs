@@ -1,4 +1,4 @@
-//! Document 02, ticket 13: each sentence about the gains of a channel, and every weight held against the sine.
+//! The gains of a channel, rule by rule (R12.1 to R12.9), and every weight held against the sine.
 
 use paper::{float_gains, gains, Gain, Gains, Number, WEIGHTS};
 

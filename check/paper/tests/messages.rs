@@ -1,4 +1,4 @@
-//! "Bytes", "Note-on" and "Other messages" where no number is given.
+//! Bytes, note-ons and other messages where no number is given (sections 4 to 6 of the rules).
 
 mod common;
 

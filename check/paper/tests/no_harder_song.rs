@@ -1,10 +1,10 @@
-//! Document 02, ticket 14: "no song of n bytes may do worse". Songs are looked for that make more thefts than the formula
-//! says: every list of bytes of several alphabets, as long as some seconds allow, and longer ones by climbing.
+//! R13.2: no song makes more thefts than the formula says. Such songs are looked for: every list of bytes of several
+//! alphabets, as long as some seconds allow, and longer ones by climbing.
 //!
-//! All lists of an alphabet are tried together. Of the lists of one length that leave the same record behind only one with
-//! the most thefts goes on, since what comes after does the same to each of them. So a search has all lists, though it keeps
-//! far fewer. What it finds must be the formula's number at each length, not just at most that: a search that finds less has
-//! looked in the wrong place.
+//! All lists of an alphabet are tried together. Of the lists of one length that leave the same record behind only one
+//! with the most thefts goes on, since what comes after does the same to each of them. So a search has all lists,
+//! though it keeps far fewer. What it finds must be the formula's number at each length, not just at most that: a
+//! search that finds less has looked in the wrong place.
 
 mod common;
 
@@ -118,7 +118,7 @@ fn single(bytes: impl IntoIterator<Item = u8>) -> Vec<Vec<u8>> {
     bytes.into_iter().map(|byte| vec![byte]).collect()
 }
 
-/// Words as in the paper, parted by commas.
+/// Words of bytes in hexadecimal, parted by commas.
 fn words(text: &str) -> Vec<Vec<u8>> {
     text.split(',').map(bytes).collect()
 }

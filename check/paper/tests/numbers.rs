@@ -1,4 +1,4 @@
-//! "Numbers and what they leave": each number with its example, its left-behind and its place in the order.
+//! R8.1 to R8.14: each number with its example, what it leaves and its place in the order.
 
 mod common;
 

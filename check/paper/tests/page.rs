@@ -1,4 +1,4 @@
-//! Document 02, ticket 2: each sentence about the service page. Whole pages are written here by hand; those of random devices are
+//! The service page, rule by rule (R15.1 to R15.8). Whole pages are written here by hand; those of random devices are
 //! taken apart again and held against the queries and the table, generator by generator.
 
 mod common;
@@ -327,7 +327,7 @@ fn seventeen_lines_of_18_characters_each_ended_by_0a() {
     }
 }
 
-/// A number that is "right-aligned with blanks", and none where its field "is filled with `-`".
+/// A number at the end of its field (R15.4), and none where dashes fill it (R15.6).
 fn number(field: &str) -> Option<u8> {
     if field.bytes().all(|byte| byte == b'-') {
         return None;

@@ -1,4 +1,4 @@
-//! Document 02, ticket 7: each sentence about the pitch of a note, and the whole table by its rule.
+//! The pitch of a note, rule by rule (R11.1 to R11.5), and the whole table.
 
 use paper::{pitch, Number, Pitch};
 
@@ -136,7 +136,7 @@ fn octave_and_remainder_are_those_of_the_floor() {
     assert_eq!(Pitch::at(-193).octave, -2);
 }
 
-/// Every sensitivity and bend, in the ticket's own terms: the position is the largest whole number p for which
+/// Every sensitivity and bend, by R11.1: the position is the largest whole number p for which
 /// 8192 (p - 16 k) is at most 16 s (b - 8192).
 #[test]
 fn the_position_is_that_of_the_formula() {

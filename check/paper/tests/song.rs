@@ -1,4 +1,4 @@
-//! Document 02, ticket 14: each sentence about the hardest song, but that none is harder: that is `no_harder_song.rs`.
+//! The hardest song, rule by rule (R13.1, R13.3, R13.4, R13.6); that none is harder is in `no_harder_song.rs`.
 
 mod common;
 

@@ -1,7 +1,7 @@
 //! The proved library through its C header, `include/muntinorris.h`: the same structures, the same fifteen calls.
 //!
-//! The only unsafe code is here. The header wants a record that a start made; on any other bytes a call "still returns, and
-//! touches no memory but the record", so that nothing here can go wrong for Rust.
+//! The only unsafe code is here. The header wants a record that a start made; on any other bytes a call "still returns,
+//! and writes no memory but what it is lent to write", so that nothing here can go wrong for Rust.
 
 /// `struct muntinorris_answer`.
 #[repr(C)]
@@ -267,7 +267,7 @@ pub fn write_song(polyphony: u8, n: usize, buffer: &mut [u8]) -> SongAnswer {
     unsafe { muntinorris_write_song(polyphony, n, buffer.as_mut_ptr(), buffer.len()) }
 }
 
-/// The same with no buffer: "with length 0 the pointer may be anything", this address too.
+/// The same with no buffer: "with length 0 the pointer is not looked at", this address neither.
 pub fn write_song_nowhere(polyphony: u8, n: usize, address: usize) -> SongAnswer {
     let nowhere = std::ptr::without_provenance_mut(address);
     // SAFETY: of length 0 nothing is read or written.

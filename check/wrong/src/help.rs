@@ -17,7 +17,7 @@ pub fn kind_by_kind(pairs: &[u8]) -> Option<Number> {
     falls.then_some(Number::MipValueFalls)
 }
 
-/// A weight of ticket 13 before it is rounded, at any place.
+/// A weight before it is rounded (R12.4), at any place.
 pub fn sine(place: f64) -> f64 {
     32768.0 * (std::f64::consts::PI * place / 252.0).sin()
 }

@@ -10,7 +10,7 @@ pub fn start(polyphony: u8, id: u8) -> Device {
     device
 }
 
-/// Feeds bytes written as in the paper ("90 3C 40") and gives the answers that aren't *none*.
+/// Feeds bytes in hexadecimal, such as 90 3C 40, and gives the answers that aren't *none*.
 pub fn feed(device: &mut Device, hex: &str) -> Vec<Answer> {
     bytes(hex)
         .into_iter()
