@@ -36,7 +36,8 @@ abbrev pub orElse : Found → Was → Taken → Taken
 orElse (At g) w t = Took g w
 orElse Nothing w t = t
 
--- step 4: "Take the idle generator of lowest number; else the oldest releasing one"; else step 5: one is stolen; "If it has none, number 11"
+-- step 4: "Take the idle generator of lowest number; else the oldest releasing one"; else step 5: one is stolen; "If it
+-- has none, number 11"
 unfoldable pub choice : Generators → Table → ℕ → ℕ → Taken
 choice s t p c =
     orElse (lowestIdle s p) Idle

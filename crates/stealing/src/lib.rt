@@ -1,5 +1,5 @@
-// Who loses a note (document 01, "Note-on", step 5): the channel to steal from, and the generator that is stolen, for every value of the generators and of
-// the table. Assumes nothing.
+// Who loses a note (document 01, "Note-on", step 5): the channel to steal from, and the generator that is stolen, for
+// every value of the generators and of the table. Assumes nothing.
 ghost use mathlib.Core.Path.{_≡_};
 ghost use Prim.Native.Nat.{_-_};
 ghost use mathlib.Core.Bool.{_&&_};
@@ -50,7 +50,8 @@ fn steal_from(generators: Generators, table: Table, polyphony: u8, channel: u8) 
     Loser::Nobody
 }
 
-// The generator that a new note of the channel steals where all are busy: the oldest busy one of the channel to steal from.
+// The generator that a new note of the channel steals where all are busy: the oldest busy one of the channel to steal
+// from.
 pub fn victim(generators: Generators, table: Table, polyphony: u8, channel: u8) -> Found
     ensures { λ r. ⌜ r ≡ victim generators table polyphony channel ⌝ }
 {
