@@ -29,7 +29,8 @@ enum Keys {
     Every,
 }
 
-// The generators that a change means, by plain numbers, so that a pass asks them of many at once: held ones, sustained ones or both, of a channel and of its keys.
+// The generators that a change means, by plain numbers, so that a pass asks them of many at once: held ones, sustained
+// ones or both, of a channel and of its keys.
 struct Selection {
     held: bool,
     sustained: bool,

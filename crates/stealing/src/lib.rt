@@ -50,7 +50,8 @@ fn steal_from(generators: Generators, table: Table, polyphony: u8, channel: u8) 
     Loser::Nobody
 }
 
-// The generator that a new note of the channel steals where all are busy: the oldest busy one of the channel to steal from.
+// The generator that a new note of the channel steals where all are busy: the oldest busy one of the channel to steal
+// from.
 pub fn victim(generators: Generators, table: Table, polyphony: u8, channel: u8) -> Found
     ensures { λ r. ⌜ r ≡ victim generators table polyphony channel ⌝ }
 {

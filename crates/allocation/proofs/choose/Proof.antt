@@ -1,4 +1,5 @@
--- `allocation::choose` meets its contract: each search found a generator, or the next one decides, and behind the last stands number 11.
+-- `allocation::choose` meets its contract: each search found a generator, or the next one decides, and
+-- behind the last stands number 11.
 -- Assumes nothing.
 use mathlib.Core.Path.{sym, _∙_}
 use Rattle.allocation.specs.Allocation.{choice}

@@ -1,4 +1,5 @@
--- `candidates::oldest` meets its contract: where none is counted none is found, and else the first with a mark is the first that is wanted.
+-- `candidates::oldest` meets its contract: where none is counted none is found, and else the first with a mark
+-- is the first that is wanted.
 -- Assumes nothing.
 use mathlib.Core.Path.{sym, ap, _∙_}
 use Rattle.generators.proofs.Sizes.{state-64}

@@ -1,4 +1,5 @@
--- `releases::select` meets its contract: each case selects by its fields the generators that its clause of the definition names.
+-- `releases::select` meets its contract: each case selects by its fields the generators that its clause of the
+-- definition names.
 -- Assumes nothing.
 use mathlib.Core.Bool.{and-true, or-false}
 use Rattle.releases.specs.Releases.{changes}

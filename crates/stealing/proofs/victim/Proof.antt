@@ -1,4 +1,5 @@
--- `stealing::victim` meets its contract: a channel to steal from has its oldest busy generator stolen, and where there is no channel none is.
+-- `stealing::victim` meets its contract: a channel to steal from has its oldest busy generator stolen, and where
+-- there is no channel none is.
 -- Assumes nothing.
 use mathlib.Core.Path.{sym, _∙_}
 use Rattle.stealing.specs.Stealing.{victim}
