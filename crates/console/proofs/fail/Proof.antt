@@ -4,5 +4,8 @@ use borrow.Author.Needs.{needs}
 use Rattle.console.proofs.fail.Statement.{statement}
 use Rattle.console.proofs.fail.Tie as tie
 
+returns : tie.Need-returns
+returns c = search needs
+
 pub fail-spec : {M : Type 1} → statement M
-fail-spec = tie.close (tie.spec (λ c κs. search needs) (λ c. search needs))
+fail-spec = tie.close (tie.spec (λ c κs. search needs) returns)

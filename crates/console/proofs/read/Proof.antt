@@ -28,6 +28,9 @@ loop-again c = c .before .before .before .read .kept .1 .0 ∙ c .before .before
 same-length-2 : tie.Need-same-length-2 Inv-loop μ-loop
 same-length-2 c = c .before .loop .inv
 
+returns-2 : tie.Need-returns-2 Inv-loop μ-loop
+returns-2 c = search needs
+
 pub read-spec : {M : Type 1} → statement M
 read-spec =
     tie.close
@@ -43,4 +46,4 @@ read-spec =
     (λ c. search needs)
     loop-again
     same-length-2
-    (λ c. search needs))
+    returns-2)

@@ -46,6 +46,9 @@ loop-again c = c .before .before .before .answer .kept .0 ∙ c .before .before 
 same-length : tie.Need-same-length Inv-loop μ-loop
 same-length c = c .before .loop .inv
 
+returns : tie.Need-returns Inv-loop μ-loop
+returns c = search needs
+
 pub answer-all-spec : {M : Type 1} → statement M
 answer-all-spec =
     tie.close
@@ -60,4 +63,4 @@ answer-all-spec =
     loop-less
     loop-again
     same-length
-    (λ c. search needs))
+    returns)

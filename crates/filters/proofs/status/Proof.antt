@@ -4,5 +4,11 @@ use borrow.Author.Needs.{needs}
 use Rattle.filters.proofs.status.Statement.{statement}
 use Rattle.filters.proofs.status.Tie as tie
 
+returns : tie.Need-returns
+returns c = search needs
+
+returns-2 : tie.Need-returns-2
+returns-2 c = search needs
+
 pub status-spec : {M : Type 1} → statement M
-status-spec = tie.close (tie.spec (λ c. search needs) (λ c. search needs))
+status-spec = tie.close (tie.spec returns returns-2)

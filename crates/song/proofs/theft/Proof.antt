@@ -13,6 +13,12 @@ returns-2 c = search needs
 returns-3 : tie.Need-returns-3
 returns-3 c = (simp (c .before .before .a .given .1, c .stolen .ensures .0), c .stolen .ensures .1)
 
+returns-4 : tie.Need-returns-4
+returns-4 c = search needs
+
+returns-5 : tie.Need-returns-5
+returns-5 c = search needs
+
 pub theft-spec : {M : Type 1} → statement M
 theft-spec =
     tie.close
@@ -26,5 +32,5 @@ theft-spec =
     returns
     returns-2
     returns-3
-    (λ c. search needs)
-    (λ c. search needs))
+    returns-4
+    returns-5)

@@ -25,6 +25,9 @@ loop-again c =
 same-length : tie.Need-same-length Inv-loop μ-loop
 same-length c = c .before .loop .inv .1
 
+returns : tie.Need-returns Inv-loop μ-loop
+returns c = search needs
+
 pub all-spec : {M : Type 1} → statement M
 all-spec =
     tie.close
@@ -38,4 +41,4 @@ all-spec =
     (λ c. search needs)
     loop-again
     same-length
-    (λ c. search needs))
+    returns)

@@ -20,11 +20,17 @@ loop-holds c = (omega arith, refl)
 same-length : tie.Need-same-length Inv-loop μ-loop
 same-length c = c .before .before .loop .inv .1
 
+returns : tie.Need-returns Inv-loop μ-loop
+returns c = search needs
+
 loop-again : tie.Need-loop-again Inv-loop μ-loop
 loop-again c = (omega arith, c .before .before .take-byte .kept .1 .0 ∙ c .before .before .before .before .before .before .loop .inv .1)
 
 same-length-2 : tie.Need-same-length-2 Inv-loop μ-loop
 same-length-2 c = c .before .loop .inv .1
+
+returns-2 : tie.Need-returns-2 Inv-loop μ-loop
+returns-2 c = search needs
 
 pub take-bytes-spec : {M : Type 1} → statement M
 take-bytes-spec =
@@ -34,11 +40,11 @@ take-bytes-spec =
     μ-loop
     loop-holds
     same-length
-    (λ c. search needs)
+    returns
     (λ c. search needs)
     (λ c κs. search needs)
     (λ c. search needs)
     (λ c. search needs)
     loop-again
     same-length-2
-    (λ c. search needs))
+    returns-2)

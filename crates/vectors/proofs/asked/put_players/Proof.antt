@@ -23,6 +23,9 @@ loop-again c = (omega arith, c .before .before .put-player .kept .0 ∙ c .befor
 same-length : tie.Need-same-length Inv-loop μ-loop
 same-length c = c .before .loop .inv .1
 
+returns : tie.Need-returns Inv-loop μ-loop
+returns c = search needs
+
 pub put-players-spec : {M : Type 1} → statement M
 put-players-spec =
     tie.close
@@ -36,4 +39,4 @@ put-players-spec =
     (λ c. search needs)
     loop-again
     same-length
-    (λ c. search needs))
+    returns)

@@ -23,6 +23,9 @@ loop-again c = (omega arith, c .before .before .put-share-field .kept .0 ∙ c .
 same-length : tie.Need-same-length Inv-loop μ-loop
 same-length c = c .before .before .put2 .kept .0 ∙ c .before .before .before .before .before .before .loop .inv .1 ∙ c .before .before .before .before .before .before .before .before .before .put .kept .0
 
+returns : tie.Need-returns Inv-loop μ-loop
+returns c = search needs
+
 pub put-shares-spec : {M : Type 1} → statement M
 put-shares-spec =
     tie.close
@@ -41,4 +44,4 @@ put-shares-spec =
     (λ c. search needs)
     (λ c κs. search needs)
     same-length
-    (λ c. search needs))
+    returns)

@@ -30,6 +30,12 @@ float-to-bits-put-both-2 c =
     let s = b .before .before .before in
     of-gains (s .args .a) (b .a .given .0 .0) (b .a .given .1) (s .pre) .1
 
+returns : tie.Need-returns
+returns c = search needs
+
+returns-2 : tie.Need-returns-2
+returns-2 c = search needs
+
 pub put-gains-spec : {M : Type 1} → statement M
 put-gains-spec =
     tie.close
@@ -41,6 +47,6 @@ put-gains-spec =
     (λ c. search needs)
     (λ c κs. search needs)
     (λ c. search needs)
+    returns
     (λ c. search needs)
-    (λ c. search needs)
-    (λ c. search needs))
+    returns-2)

@@ -9,5 +9,8 @@ use Rattle.vectors.proofs.sounds.put_levels.Tie as tie
 put-gains-requires : tie.Need-put-gains-requires
 put-gains-requires c κs = let a = c .before .before .before .args in numbers (a .expression) (a .volume) (a .pan) (c .gains-of .result) (c .gains-of .ensures)
 
+returns : tie.Need-returns
+returns c = search needs
+
 pub put-levels-spec : {M : Type 1} → statement M
-put-levels-spec = tie.close (tie.spec (λ c κs. search needs) put-gains-requires (λ c. search needs) (λ c. search needs))
+put-levels-spec = tie.close (tie.spec (λ c κs. search needs) put-gains-requires (λ c. search needs) returns)
