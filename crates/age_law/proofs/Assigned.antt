@@ -1,5 +1,6 @@
--- The order in the record is the order of assignment. Invariant over a history: each sounding generator stands in the order once and no other does, so that
--- there is always room for one more; and the order is that of the last assignments.
+-- The order in the record is the order of assignment. Invariant over a history: each sounding generator stands in the
+-- order once and no other does, so that there is always room for one more; and the order is that of the last
+-- assignments.
 -- Assumes nothing.
 use mathlib.Core.Path.{_≡_, refl, sym, ap, _∙_}
 use mathlib.Core.Bool.{Bool, true, false, not, _||_}

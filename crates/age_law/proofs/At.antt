@@ -1,4 +1,5 @@
--- Each generator after an act, by its number: beyond the 64 places all are idle, with channel 0 and key 0, before and after.
+-- Each generator after an act, by its number: beyond the 64 places all are idle, with channel 0 and key 0, before and
+-- after.
 -- Assumes nothing.
 use mathlib.Core.Path.{_≡_, refl, sym, ap, _∙_}
 use mathlib.Core.Bool.{Bool, true, false}

@@ -62,7 +62,8 @@ kept-end p a i m out g e q o =
     let b = at-most-le 64 (a .count) in
     rw (q, o, t, take-all 64 (filterBy p (oldestFirst a)) (omega arith))
 
--- A loop that puts each number behind those kept, whether it stays or not: up to the number at m, which may not stay, the array holds what is kept.
+-- A loop that puts each number behind those kept, whether it stays or not: up to the number at m, which may not stay,
+-- the array holds what is kept.
 module _ (p : ℕ → Bool) (l : List ℕ) where
   -- a turn
   pub loose-next : (i m : ℕ) (out : List ℕ) → i < length l → i < 64 → m ≡ length (kept p 0 64 l i) → set out m 0 ≡ padded 64 0 (kept p 0 64 l i)

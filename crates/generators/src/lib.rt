@@ -21,8 +21,9 @@ pub fn is_busy(state: u8) -> bool
     (state == HELD) | (state == SUSTAINED)
 }
 
-// The generators, field by field, by their number: a state above, a channel 1 to 16 and a key 0 to 127 (both 0 while idle); and the sounding ones by age.
-// A state above 3, which no operation makes, counts as sounding and as nothing more.
+// The generators, field by field, by their number: a state above, a channel 1 to 16 and a key 0 to 127 (both 0 while
+// idle); and the sounding ones by age. A state above 3, which no operation makes, counts as sounding and as nothing
+// more.
 #[repr(C)]
 pub struct Generators {
     pub state: [u8; 64],

@@ -1,4 +1,5 @@
--- A loop that moves the elements that pass to the front of a blank array: at turn i the array holds those that pass among the first i, and m is their number.
+-- A loop that moves the elements that pass to the front of a blank array: at turn i the array holds those that pass
+-- among the first i, and m is their number.
 -- Assumes nothing.
 use mathlib.Core.Path.{_≡_, refl, sym, ap, _∙_}
 use mathlib.Core.Bool.{Bool, true, false}

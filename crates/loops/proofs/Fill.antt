@@ -1,4 +1,5 @@
--- A loop that makes an array by a rule: at turn i the first i elements are those of the rule, and the others are as they were.
+-- A loop that makes an array by a rule: at turn i the first i elements are those of the rule, and the others are as
+-- they were.
 -- Assumes nothing.
 use mathlib.Core.Path.{_≡_, refl, sym, ap, _∙_}
 use mathlib.Core.Bool.{Bool, true, false}

@@ -1,5 +1,5 @@
--- Marks: a loop marks the first n numbers in a blank array. Where no number from n on passes, these are the marks of all, and a mark says whether its number
--- passes.
+-- Marks: a loop marks the first n numbers in a blank array. Where no number from n on passes, these are the marks of
+-- all, and a mark says whether its number passes.
 -- Assumes nothing.
 use mathlib.Core.Path.{_≡_, refl, sym, ap, _∙_}
 use mathlib.Core.Bool.{Bool, true, false, not}

@@ -1,4 +1,5 @@
--- How often a number occurs in a list: after a filter, behind one element more, and summed over all numbers, which gives the length.
+-- How often a number occurs in a list: after a filter, behind one element more, and summed over all numbers, which
+-- gives the length.
 -- Assumes nothing.
 use mathlib.Core.Path.{_≡_, refl, sym, ap, _∙_}
 use mathlib.Core.Bool.{Bool, true, false}

@@ -1,5 +1,5 @@
--- A loop that looks for the first element that passes, or keeps those that pass: at turn i the answer for the rest of the list is the answer for the whole,
--- or what is kept is what passes among the first i.
+-- A loop that looks for the first element that passes, or keeps those that pass: at turn i the answer for the rest of
+-- the list is the answer for the whole, or what is kept is what passes among the first i.
 -- Assumes nothing.
 use mathlib.Core.Path.{_≡_, refl, sym, ap, _∙_}
 use mathlib.Core.Bool.{Bool, true, false}

@@ -1,5 +1,5 @@
-// Ways of going over an array, as definitions (specs/) with one law for each (proofs/): what every loop of this repository is proved by;
-// and the small choices that loop bodies make without a branch. Assumes nothing.
+// Ways of going over an array, as definitions (specs/) with one law for each (proofs/): what every loop of this
+// repository is proved by; and the small choices that loop bodies make without a branch. Assumes nothing.
 ghost use mathlib.Core.Path.{_≡_};
 ghost use Prim.Native.Nat.{_≤_, _<_, _-_};
 ghost use lib.ListN.{getD};

@@ -1,5 +1,5 @@
--- The loop that marks the channels which a table leaves unmasked: at turn i a channel has a mark, or an entry from i on unmasks it, exactly where an entry of
--- the whole table does.
+-- The loop that marks the channels which a table leaves unmasked: at turn i a channel has a mark, or an entry from i on
+-- unmasks it, exactly where an entry of the whole table does.
 -- Assumes nothing.
 use mathlib.Core.Path.{_≡_, refl, sym, ap, _∙_}
 use mathlib.Core.Bool.{Bool, true, false, _&&_, _||_, not, or-true, or-false}

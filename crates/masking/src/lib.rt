@@ -31,7 +31,8 @@ fn unmasked(table: Table, polyphony: u8) -> [u8; 256]
     out
 }
 
-// A mark for each newly masked channel, by its number: it plays by the old table and not by the new one. What is above 16 is no channel and has none.
+// A mark for each newly masked channel, by its number: it plays by the old table and not by the new one. What is above
+// 16 is no channel and has none.
 fn marks(polyphony: u8, old: Table, new: Table) -> [u8; 256]
     ensures { λ r. ⌜ r ≡ marksOf (isNewlyMasked polyphony old new) ⌝ }
 {

@@ -1,4 +1,5 @@
--- An accepted MIP message's table is that message, and well formed: each pair passed 7, 8 and 9 against all pairs before it.
+-- An accepted MIP message's table is that message, and well formed: each pair passed 7, 8 and 9 against all pairs
+-- before it.
 -- Assumes nothing.
 use mathlib.Core.Path.{_≡_, refl, ap, _∙_}
 use mathlib.Core.Bool.{Bool, true, false, _||_}

@@ -1,4 +1,5 @@
--- Numbers 5 and 6 by the parser's count n: what follows the head of four is n less 4 bytes long, and longer than 32 where n is above 36, of which 37 are held.
+-- Numbers 5 and 6 by the parser's count n: what follows the head of four is n less 4 bytes long, and longer than 32
+-- where n is above 36, of which 37 are held.
 -- Assumes nothing.
 use mathlib.Core.Path.{_≡_, refl, _∙_}
 use mathlib.Core.Bool.{Bool, true, false, _||_}

@@ -1,4 +1,5 @@
--- The loop over the pairs of a MIP message: at turn i the judgement of the table so far and the pairs from i on is that of all pairs.
+-- The loop over the pairs of a MIP message: at turn i the judgement of the table so far and the pairs from i on is that
+-- of all pairs.
 -- Assumes nothing.
 use mathlib.Core.Path.{_≡_, refl, sym, ap, _∙_}
 use mathlib.Core.Bool.{true, false}
@@ -57,7 +58,8 @@ one-entry-more t u e s h p =
     let m : entriesOf u ≡ l = ap entriesOf q ∙ entries-of-table l (omega arith) in
     (ap (λ (x : Table). x .count) q ∙ n, m, q ∙ ap tableOf (sym m))
 
--- a turn at i, with the entries and the value before it and the judgement of all; the pair is judged by 7, 8 and 9 in this order
+-- a turn at i, with the entries and the value before it and the judgement of all; the pair is judged by 7, 8 and 9 in
+-- this order
 module _ (l : List ℕ) (n i v : ℕ) (before : List Entry) (all : Judged) (h : i + 1 < n) (k : n ≤ length l)
     (so : judgedBy (before ++ pairs (drop i (take n l))) (faulty before v (pairs (drop i (take n l)))) ≡ all) where
   pub not-a-channel : 15 < getD l i 0 → refused 7 ≡ all

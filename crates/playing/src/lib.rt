@@ -54,7 +54,8 @@ fn note_answer(taken: Taken, channel: u8, key: u8) -> Answer
     }
 }
 
-// A note-on with a velocity above 0. It changes the generators alone, so that a caller can leave the rest of the record where it is.
+// A note-on with a velocity above 0. It changes the generators alone, so that a caller can leave the rest of the record
+// where it is.
 pub fn sound(i: Instrument, channel: u8, key: u8) -> Sounded
     ensures { λ r. ⌜ r ≡ soundedOf (playNoteOn i channel key) ⌝ }
 {

@@ -1,4 +1,5 @@
--- The shares of a table: they come to at most P, they are those of distinct channels, and a channel that has none is masked.
+-- The shares of a table: they come to at most P, they are those of distinct channels, and a channel that has none is
+-- masked.
 -- Assumes nothing.
 use mathlib.Core.Path.{_≡_, refl, ap}
 use mathlib.Core.Bool.{Bool, true, false, not, _||_}

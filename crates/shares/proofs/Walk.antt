@@ -1,5 +1,5 @@
--- The loop over a table's entries that looks for a channel's share: at turn i the share found in the entries from i on, with the value before them, is the
--- one found in all of them. Assumes nothing.
+-- The loop over a table's entries that looks for a channel's share: at turn i the share found in the entries from i on,
+-- with the value before them, is the one found in all of them. Assumes nothing.
 use mathlib.Core.Path.{_≡_, refl, sym, _∙_}
 use mathlib.Core.Bool.{Bool, true, false, _&&_}
 use mathlib.Core.List.{List, _∷_}

@@ -1,4 +1,5 @@
--- What is left without the marked generators: a generator is marked if it leaves, and a number that is no generator never is.
+-- What is left without the marked generators: a generator is marked if it leaves, and a number that is no generator
+-- never is.
 -- Assumes nothing.
 use mathlib.Core.Path.{_≡_, refl}
 use mathlib.Core.Bool.{Bool, true, false, not}

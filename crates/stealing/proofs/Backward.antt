@@ -1,5 +1,5 @@
--- The channel of lowest priority over its share, looked for from the table's end: an entry that is over its share is the answer for the entries up to it,
--- and one that is not leaves the answer to the entries before it.
+-- The channel of lowest priority over its share, looked for from the table's end: an entry that is over its share is
+-- the answer for the entries up to it, and one that is not leaves the answer to the entries before it.
 -- Assumes nothing.
 use mathlib.Core.Path.{_≡_, refl, ap, _∙_}
 use mathlib.Core.Bool.{Bool, true, false, _&&_}

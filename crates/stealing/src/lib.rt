@@ -40,7 +40,8 @@ fn steal_from(generators: Generators, table: Table, polyphony: u8, channel: u8) 
     while 0 < i {
         i -= 1;
         let e = entries[i as usize];
-        // The entry before, which the first has not: read here, since a function of the table would copy it for each entry.
+        // The entry before, which the first has not: read here, since a function of the table would copy it for each
+        // entry.
         let x = entries[loops::less(i, 1) as usize];
         let before = loops::if_else(i == 0, 0, x.value);
         if is_over(generators, e, before, polyphony, channel) {

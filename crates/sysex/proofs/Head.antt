@@ -1,4 +1,5 @@
--- The tests of a SysEx's data bytes are those of the first n bytes that the parser holds: where there are fewer than four, each test fails either way.
+-- The tests of a SysEx's data bytes are those of the first n bytes that the parser holds: where there are fewer than
+-- four, each test fails either way.
 -- Assumes nothing.
 use mathlib.Core.Path.{_≡_, refl}
 use mathlib.Core.Bool.{Bool, true, false, _&&_}

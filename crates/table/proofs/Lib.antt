@@ -1,4 +1,5 @@
--- Laws that other layers cite: the length of a table's array (Sizes), its places (Places), a loop over its entries (Walk), the starting table (Start).
+-- Laws that other layers cite: the length of a table's array (Sizes), its places (Places), a loop over its entries
+-- (Walk), the starting table (Start).
 -- Assumes nothing.
 pub mod Sizes
 pub mod Places

@@ -1,4 +1,5 @@
--- The starting table, for every P: its entries are the sixteen channels in their order, each with the value P, and well formed.
+-- The starting table, for every P: its entries are the sixteen channels in their order, each with the value P, and well
+-- formed.
 -- Assumes nothing.
 use mathlib.Core.Path.{_≡_, refl}
 use mathlib.Core.List.{map}

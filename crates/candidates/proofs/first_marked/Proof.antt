@@ -1,4 +1,5 @@
--- `candidates::first_marked` meets its contract. Invariant: the first generator with a mark in the order from i on is the first of all.
+-- `candidates::first_marked` meets its contract. Invariant: the first generator with a mark in the order from i on is
+-- the first of all.
 -- Assumes nothing.
 use Prim.Native.Nat.{ℕ, _≤_, _-_}
 use mathlib.Core.Path.{_≡_, refl, ap}

@@ -1,4 +1,5 @@
--- `candidates::lowest_idle` meets its contract. Invariant: the first idle generator from g on, below the smaller of 64 and p, is the first of all.
+-- `candidates::lowest_idle` meets its contract. Invariant: the first idle generator from g on, below the smaller of 64
+-- and p, is the first of all.
 -- Assumes nothing.
 use Prim.Native.Nat.{ℕ, _≤_, _-_}
 use mathlib.Core.Path.{_≡_, refl, ap}

@@ -1,4 +1,5 @@
--- `drums::group` meets its contract. Invariant: the first row of the key among the rows from i on is the first among all; the measure is the rows left.
+-- `drums::group` meets its contract. Invariant: the first row of the key among the rows from i on is the first among
+-- all; the measure is the rows left.
 -- Assumes nothing.
 use Prim.Native.Nat.{_≤_, _<_, _-_}
 use mathlib.Core.Path.{_≡_, refl}

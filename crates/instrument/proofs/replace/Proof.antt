@@ -1,4 +1,5 @@
--- `instrument::replace` meets its contract: below 16 the write is the definition's, from 16 on the definition changes nothing either.
+-- `instrument::replace` meets its contract: below 16 the write is the definition's, from 16 on the definition changes
+-- nothing either.
 -- Assumes nothing.
 use mathlib.Core.Path.{_≡_, refl, sym}
 use Prim.Native.Nat.{_≤_}

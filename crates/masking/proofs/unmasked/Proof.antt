@@ -1,4 +1,5 @@
--- `masking::unmasked` meets its contract. Invariant: a channel has a mark, or is unmasked by an entry from i on, exactly where the table unmasks it.
+-- `masking::unmasked` meets its contract. Invariant: a channel has a mark, or is unmasked by an entry from i on,
+-- exactly where the table unmasks it.
 -- Assumes nothing.
 use Prim.Native.Nat.{ℕ, _≤_, _-_}
 use mathlib.Core.Path.{_≡_, refl, ap, _∙_}

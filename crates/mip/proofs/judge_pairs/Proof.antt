@@ -1,5 +1,5 @@
--- `mip::judge_pairs` meets its contract. Invariant: the table is that of its entries, two bytes for each, and the judgement of these entries and the pairs from i on
--- is that of all pairs. The measure is the number of bytes left.
+-- `mip::judge_pairs` meets its contract. Invariant: the table is that of its entries, two bytes for each, and the
+-- judgement of these entries and the pairs from i on is that of all pairs. The measure is the number of bytes left.
 -- Assumes nothing.
 use Prim.Native.Nat.{ℕ, _+_, _*_, _≤_, _-_}
 use mathlib.Core.Path.{_≡_, refl, sym, _∙_}

@@ -1,4 +1,5 @@
--- `releases::apply` meets its contract: the states are those of the pass, which selects what the change means, and the rest stays.
+-- `releases::apply` meets its contract: the states are those of the pass, which selects what the change means, and the
+-- rest stays.
 -- Assumes nothing.
 use mathlib.Core.Path.{ap}
 use mathlib.Core.Bool.{Bool}

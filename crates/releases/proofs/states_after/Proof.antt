@@ -1,4 +1,5 @@
--- `releases::states_after` meets its contract. Invariant: the first i states are those of the rule, the others as they were.
+-- `releases::states_after` meets its contract. Invariant: the first i states are those of the rule, the others as they
+-- were.
 -- Assumes nothing.
 use Prim.Native.Nat.{ℕ, _≤_, _-_}
 use mathlib.Core.Path.{_≡_, refl, ap, _∙_}

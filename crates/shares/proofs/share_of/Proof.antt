@@ -1,5 +1,5 @@
--- `shares::share_of` meets its contract. Invariant: the share that the channel finds in the entries from i on, with the value
--- before them, is the one that it finds in all of them.
+-- `shares::share_of` meets its contract. Invariant: the share that the channel finds in the entries from i on, with the
+-- value before them, is the one that it finds in all of them.
 -- Assumes nothing.
 use Prim.Native.Nat.{_≤_, _-_}
 use mathlib.Core.Path.{_≡_, refl, ap, _∙_}

@@ -1,4 +1,5 @@
--- `silence::fall_silent` meets its contract: the marks are those of the generators that leave, in each array and in the order of age.
+-- `silence::fall_silent` meets its contract: the marks are those of the generators that leave, in each array and in the
+-- order of age.
 -- Assumes nothing.
 use Rattle.generators.proofs.Sizes.{state-64}
 use Rattle.silence.proofs.Marked.{silence-of}

@@ -1,4 +1,5 @@
--- `silence::leaves` meets its contract: an idle generator never leaves, and each case of the enum has its clause of the definition.
+-- `silence::leaves` meets its contract: an idle generator never leaves, and each case of the enum has its clause of the
+-- definition.
 -- Assumes nothing.
 use borrow.Author.Tests.{eq-eqb, ne-eqb}
 use Rattle.silence.specs.Silence.{isAmong, leaves}

@@ -1,4 +1,5 @@
--- `silence::marks` meets its contract. Invariant: the first i marks are those of the rule, the others 0. From 64 on no generator leaves.
+-- `silence::marks` meets its contract. Invariant: the first i marks are those of the rule, the others 0. From 64 on no
+-- generator leaves.
 -- Assumes nothing.
 use Prim.Native.Nat.{ℕ, _≤_, _-_}
 use mathlib.Core.Path.{_≡_, refl, ap, _∙_}

@@ -1,4 +1,5 @@
--- `silence::unmarked` meets its contract. Invariant: the first i numbers are those of the rule, the others as they were.
+-- `silence::unmarked` meets its contract. Invariant: the first i numbers are those of the rule, the others as they
+-- were.
 -- Assumes nothing.
 use Prim.Native.Nat.{ℕ, _≤_, _-_}
 use mathlib.Core.Path.{_≡_, refl}

@@ -1,4 +1,5 @@
--- `stealing::steal_from` meets its contract. Invariant: the answer for the first i entries is the answer for all. The measure is i.
+-- `stealing::steal_from` meets its contract. Invariant: the answer for the first i entries is the answer for all. The
+-- measure is i.
 -- Assumes nothing.
 use Prim.Native.Nat.{_≤_, _<_}
 use mathlib.Core.Path.{_≡_, refl, sym, ap, _∙_}

@@ -1,4 +1,5 @@
--- `sysex::starts_with` meets its contract: the four reads are within the array, and the code's test is the definition's.
+-- `sysex::starts_with` meets its contract: the four reads are within the array, and the code's test is the
+-- definition's.
 -- Assumes nothing.
 use mathlib.Core.Path.{refl}
 use borrow.Author.Needs.{needs}

@@ -1,4 +1,5 @@
--- `ages::Ages::newest` meets its contract: the generator is left out by a mark for it alone, and then pushed behind the others.
+-- `ages::Ages::newest` meets its contract: the generator is left out by a mark for it alone, and then pushed behind the
+-- others.
 -- Assumes nothing.
 use Prim.Native.Nat.{_<_}
 use native.Mathlib.Omega.{arith}

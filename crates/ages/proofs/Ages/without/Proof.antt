@@ -1,5 +1,5 @@
--- `ages::Ages::without` meets its contract. Invariant: with a 0 put at m the array holds the unmarked ones among the first i, and 0 behind them; m is their
--- number. The measure is what is left of the order.
+-- `ages::Ages::without` meets its contract. Invariant: with a 0 put at m the array holds the unmarked ones among the
+-- first i, and 0 behind them; m is their number. The measure is what is left of the order.
 -- Assumes nothing.
 use Prim.Native.Nat.{ℕ, _≤_, _<_, _-_}
 use mathlib.Core.Path.{_≡_, refl, sym, ap, _∙_}

@@ -1,4 +1,5 @@
--- `instrument::Instrument::channel_of` meets its contract: below 16 the place is in the array, from 16 on the definition gives a fresh channel too.
+-- `instrument::Instrument::channel_of` meets its contract: below 16 the place is in the array, from 16 on the
+-- definition gives a fresh channel too.
 -- Assumes nothing.
 use mathlib.Core.Path.{_≡_, sym, ap, _∙_}
 use Prim.Native.Nat.{ℕ, _≤_, _-_}

@@ -1,4 +1,5 @@
--- `instrument::Instrument::with_channel` meets its contract: the channels are those that `replace` gives, all else is as it was.
+-- `instrument::Instrument::with_channel` meets its contract: the channels are those that `replace` gives, all else is
+-- as it was.
 -- Assumes nothing.
 use mathlib.Core.Path.{ap, _∙_}
 use Prim.Native.Nat.{ℕ}

@@ -1,4 +1,5 @@
--- `table::Table::start` meets its contract. Invariant: the array has the first i entries of the starting table, and zeros.
+-- `table::Table::start` meets its contract. Invariant: the array has the first i entries of the starting table, and
+-- zeros.
 -- Assumes nothing.
 use Prim.Native.Nat.{ℕ, _≤_, _-_}
 use mathlib.Core.Path.{_≡_, refl, sym, ap}
