@@ -9,7 +9,6 @@ use Rattle.sysex.specs.declared.Kind.the-variants.{Mip, SystemOn, Other}
 use Rattle.sysex.specs.SysEx.{kindOf}
 use Rattle.mip.specs.declared.Verdict.{Verdict}
 use Rattle.mip.specs.declared.Verdict.the-variants.{Accepted, Refused}
-use Rattle.mip.specs.declared.Judged.{Judged}
 use Rattle.mip.specs.Mip.{judged}
 use Rattle.mip.specs.Mip as judging
 use Rattle.instrument.specs.declared.Instrument.{Instrument}

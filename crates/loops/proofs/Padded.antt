@@ -1,10 +1,10 @@
 -- A list in an array that has room for more: its elements stand first, and the next one goes to the place after them.
 -- Assumes nothing.
 use mathlib.Core.Path.{_≡_, refl, sym, ap, _∙_}
-use mathlib.Core.List.{List, [], _∷_, _++_, append-assoc, append-nil}
+use mathlib.Core.List.{List, [], _∷_, _++_, append-assoc}
 use Prim.Native.Nat.{ℕ, zero, suc, _+_, _-_, _≤_, _<_}
 use native.Mathlib.Omega.{arith}
-use lib.ListN.{length, take, set, getD, replicate, length-append, length-replicate, length-take, replicate-append-replicate}
+use lib.ListN.{length, take, set, getD, replicate, length-append, length-replicate, replicate-append-replicate}
 use borrow.Author.Tests.{ltb-true, ltb-false}
 use lib.Dec.{ltb}
 use lib.Seq.{take-append-add, take-append-le, take-at, set-at, length-take-le, take-all}

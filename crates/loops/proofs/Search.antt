@@ -1,16 +1,16 @@
 -- A loop that looks for the first element that passes, or keeps those that pass: at turn i the answer for the rest of
 -- the list is the answer for the whole, or what is kept is what passes among the first i.
 -- Assumes nothing.
-use mathlib.Core.Path.{_≡_, refl, sym, ap, _∙_}
+use mathlib.Core.Path.{_≡_, refl, ap, _∙_}
 use mathlib.Core.Bool.{Bool, true, false}
 use mathlib.Core.List.{List, [], _∷_, _++_, append-nil}
 use mathlib.Core.Option.{Option, some, none}
-use Prim.Native.Nat.{ℕ, zero, suc, _+_, _≤_, _<_}
+use Prim.Native.Nat.{ℕ, _+_, _≤_, _<_}
 use native.Mathlib.Numerals.{add-one}
 use native.Mathlib.Omega.{arith}
-use lib.ListN.{length, take, drop, getD, drop-of-length-le, length-append}
+use lib.ListN.{length, take, drop, getD, drop-of-length-le}
 use lib.Seq.{drop-cons, take-suc, getD-take, length-take-le}
-use Rattle.loops.specs.Cases.{if_then_else_, bit}
+use Rattle.loops.specs.Cases.{if_then_else_}
 use Rattle.loops.specs.Passes.{filterBy, firstOf, count}
 
 module _ {A : Type 0} (p : A → Bool) where

@@ -5,7 +5,6 @@ use mathlib.Core.Option.{Option, some, none}
 use Rattle.message.specs.declared.Message.{Message}
 use Rattle.message.specs.declared.Message.the-variants as message
 use Rattle.channels.specs.Channel.{withProgram, withBend}
-use Rattle.allocation.specs.declared.Was.{Was}
 use Rattle.allocation.specs.declared.Taken.{Taken}
 use Rattle.allocation.specs.declared.Taken.the-variants.{Took, Refused}
 use Rattle.allocation.specs.declared.Allocated.{Allocated}

@@ -7,7 +7,6 @@ use Rattle.silence.specs.declared.Leaving.the-variants.{One}
 use Rattle.silence.specs.Silence.{silenced}
 use Rattle.instrument.specs.declared.Instrument.{Instrument}
 use Rattle.instrument.specs.Instrument.{withGenerators}
-use Rattle.playing.specs.declared.Answer.{Answer}
 use Rattle.playing.specs.declared.Answer.the-variants.{Done, Number}
 use Rattle.playing.specs.declared.Reply.{Reply}
 use Rattle.playing.specs.Playing.{replied}

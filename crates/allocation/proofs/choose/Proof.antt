@@ -7,24 +7,9 @@ use borrow.Author.Needs.{needs}
 use Rattle.allocation.proofs.choose.Statement.{statement}
 use Rattle.allocation.proofs.choose.Tie as tie
 
-lowest-idle-requires : tie.Need-lowest-idle-requires
-lowest-idle-requires c κs = search needs
-
-enum-known-g : tie.Need-enum-known-g
-enum-known-g c = search needs
-
 returns : tie.Need-returns
 unfolding choice
 returns c = simp (sym (c .before .before .before .lowest-idle .ensures) ∙ c .before .g .given .1)
-
-enum-told : tie.Need-enum-told
-enum-told c = search needs
-
-oldest-requires : tie.Need-oldest-requires
-oldest-requires c κs = search needs
-
-enum-known-g-2 : tie.Need-enum-known-g-2
-enum-known-g-2 c = search needs
 
 returns-2 : tie.Need-returns-2
 unfolding choice
@@ -32,24 +17,12 @@ returns-2 c =
     let b = c .before .before .before .before in
     simp (sym (b .before .before .lowest-idle .ensures) ∙ b .enum-told .given .1, sym (c .before .before .before .oldest .ensures) ∙ c .before .g2 .given .1)
 
-enum-told-2 : tie.Need-enum-told-2
-enum-told-2 c = search needs
-
-victim-requires : tie.Need-victim-requires
-victim-requires c κs = search needs
-
-enum-known-g-3 : tie.Need-enum-known-g-3
-enum-known-g-3 c = search needs
-
 returns-3 : tie.Need-returns-3
 unfolding choice
 returns-3 c =
     let o = c .before .before .before .before in
     let b = o .before .before .before in
     simp (sym (b .before .before .lowest-idle .ensures) ∙ b .enum-told .given .1, sym (o .before .before .oldest .ensures) ∙ o .enum-told2 .given .1, sym (c .before .before .before .victim .ensures) ∙ c .before .g3 .given .1)
-
-enum-told-3 : tie.Need-enum-told-3
-enum-told-3 c = search needs
 
 returns-4 : tie.Need-returns-4
 unfolding choice
@@ -62,16 +35,16 @@ pub choose-spec : {M : Type 1} → statement M
 choose-spec =
     tie.close
     (tie.spec
-    lowest-idle-requires
-    enum-known-g
+    (λ c κs. search needs)
+    (λ c. search needs)
     returns
-    enum-told
-    oldest-requires
-    enum-known-g-2
+    (λ c. search needs)
+    (λ c κs. search needs)
+    (λ c. search needs)
     returns-2
-    enum-told-2
-    victim-requires
-    enum-known-g-3
+    (λ c. search needs)
+    (λ c κs. search needs)
+    (λ c. search needs)
     returns-3
-    enum-told-3
+    (λ c. search needs)
     returns-4)

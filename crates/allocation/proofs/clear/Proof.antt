@@ -5,12 +5,6 @@ use borrow.Author.Needs.{needs}
 use Rattle.allocation.proofs.clear.Statement.{statement}
 use Rattle.allocation.proofs.clear.Tie as tie
 
-apply-requires : tie.Need-apply-requires
-apply-requires c κs = search needs
-
-fall-silent-requires : tie.Need-fall-silent-requires
-fall-silent-requires c κs = search needs
-
 returns : tie.Need-returns
 unfolding cleared
 returns c = simp (c .fall-silent .ensures, c .before .before .apply .ensures, c .before .if1 .taken)
@@ -20,4 +14,4 @@ unfolding cleared
 returns-2 c = simp (c .before .apply .ensures, c .if1 .left)
 
 pub clear-spec : {M : Type 1} → statement M
-clear-spec = tie.close (tie.spec apply-requires fall-silent-requires returns returns-2)
+clear-spec = tie.close (tie.spec (λ c κs. search needs) (λ c κs. search needs) returns returns-2)

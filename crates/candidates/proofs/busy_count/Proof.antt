@@ -5,12 +5,9 @@ use borrow.Author.Needs.{needs}
 use Rattle.candidates.proofs.busy_count.Statement.{statement}
 use Rattle.candidates.proofs.busy_count.Tie as tie
 
-how-many-requires : tie.Need-how-many-requires
-how-many-requires c κs = search needs
-
 returns : tie.Need-returns
 unfolding busyCount wanted
 returns c = c .how-many .ensures
 
 pub busy-count-spec : {M : Type 1} → statement M
-busy-count-spec = tie.close (tie.spec how-many-requires returns)
+busy-count-spec = tie.close (tie.spec (λ c κs. search needs) returns)

@@ -27,22 +27,10 @@ Inv-loop marks numbers n i₀ i = (i ≤ n) × (n ≤ 64) × (length numbers ≡
 abbrev μ-loop : tie.MeasureT-loop
 μ-loop marks numbers n i₀ i = n - i
 
-at-most-requires : tie.Need-at-most-requires Inv-loop μ-loop
-at-most-requires c κs = search needs
-
-cast-n : tie.Need-cast-n Inv-loop μ-loop
-cast-n c = search needs
-
 loop-holds : tie.Need-loop-holds Inv-loop μ-loop
 loop-holds c =
     let a = c .before .before in
     (omega arith, c .at-most .ensures .1, generator-64 (a .args .order) (a .good .0), refl)
-
-array-read-g : tie.Need-array-read-g Inv-loop μ-loop
-array-read-g c = search needs
-
-place-requires : tie.Need-place-requires Inv-loop μ-loop
-place-requires c κs = search needs
 
 array-read-if1 : tie.Need-array-read-if1 Inv-loop μ-loop
 array-read-if1 c = c .place .ensures .1
@@ -55,12 +43,6 @@ returns c =
     let t = rw (c .before .place .ensures .0) at (ap not (ne-eqb _ _ (c .if1 .taken))) in
     rw (← (take-at-most 64 (a .order .count) (a .order .generator) (b .loop .inv .2)), ← (m .ensures .0))
     (ap found (part-yes (has-mark (a .t2)) 0 (a .order .generator) (m .result) (omega arith) (b .loop .i) _ (omega arith) (b .loop .inv .3) t))
-
-add-i : tie.Need-add-i Inv-loop μ-loop
-add-i c = search needs
-
-loop-less : tie.Need-loop-less Inv-loop μ-loop
-loop-less c = search needs
 
 loop-again : tie.Need-loop-again Inv-loop μ-loop
 loop-again c =
@@ -84,14 +66,14 @@ first-marked-spec =
     (tie.spec
     Inv-loop
     μ-loop
-    at-most-requires
-    cast-n
+    (λ c κs. search needs)
+    (λ c. search needs)
     loop-holds
-    array-read-g
-    place-requires
+    (λ c. search needs)
+    (λ c κs. search needs)
     array-read-if1
     returns
-    add-i
-    loop-less
+    (λ c. search needs)
+    (λ c. search needs)
     loop-again
     returns-2)

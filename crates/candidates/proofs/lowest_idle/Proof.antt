@@ -25,17 +25,8 @@ Inv-loop p state n g₀ g = (g ≤ n) × (n ≤ 64) × (firstOf (idleIn state) (
 abbrev μ-loop : tie.MeasureT-loop
 μ-loop p state n g₀ g = n - g
 
-at-most-requires : tie.Need-at-most-requires Inv-loop μ-loop
-at-most-requires c κs = search needs
-
 loop-holds : tie.Need-loop-holds Inv-loop μ-loop
 loop-holds c = (omega arith, c .at-most .ensures .1, refl)
-
-cast-i : tie.Need-cast-i Inv-loop μ-loop
-cast-i c = search needs
-
-array-read-if1 : tie.Need-array-read-if1 Inv-loop μ-loop
-array-read-if1 c = search needs
 
 returns : tie.Need-returns Inv-loop μ-loop
 unfolding lowestIdle
@@ -44,12 +35,6 @@ returns c =
     let st = b .before .before .before .args .generators .state in
     let m = b .before .at-most in
     rw (← (m .ensures .0)) (ap found (number-yes (idleIn st) (m .result) (b .loop .g) _ (c .before .loop-test .taken) (b .loop .inv .2) (eq-eqb _ _ (c .if1 .taken))))
-
-add-g : tie.Need-add-g Inv-loop μ-loop
-add-g c = search needs
-
-loop-less : tie.Need-loop-less Inv-loop μ-loop
-loop-less c = search needs
 
 loop-again : tie.Need-loop-again Inv-loop μ-loop
 loop-again c =
@@ -71,12 +56,12 @@ lowest-idle-spec =
     (tie.spec
     Inv-loop
     μ-loop
-    at-most-requires
+    (λ c κs. search needs)
     loop-holds
-    cast-i
-    array-read-if1
+    (λ c. search needs)
+    (λ c. search needs)
     returns
-    add-g
-    loop-less
+    (λ c. search needs)
+    (λ c. search needs)
     loop-again
     returns-2)

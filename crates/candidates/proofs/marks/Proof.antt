@@ -25,27 +25,6 @@ loop-holds : tie.Need-loop-holds Inv-loop μ-loop
 unfolding upTo
 loop-holds c = (omega arith, c .good .0 .1 .0 .1, refl)
 
-array-read-is-wanted : tie.Need-array-read-is-wanted Inv-loop μ-loop
-array-read-is-wanted c = search needs
-
-array-read-is-wanted-2 : tie.Need-array-read-is-wanted-2 Inv-loop μ-loop
-array-read-is-wanted-2 c = search needs
-
-is-wanted-requires : tie.Need-is-wanted-requires Inv-loop μ-loop
-is-wanted-requires c κs = search needs
-
-one-requires : tie.Need-one-requires Inv-loop μ-loop
-one-requires c κs = search needs
-
-array-write-out : tie.Need-array-write-out Inv-loop μ-loop
-array-write-out c = search needs
-
-add-i : tie.Need-add-i Inv-loop μ-loop
-add-i c = search needs
-
-loop-less : tie.Need-loop-less Inv-loop μ-loop
-loop-less c = search needs
-
 loop-again : tie.Need-loop-again Inv-loop μ-loop
 loop-again c =
     let l = c .before .before .before .loop in
@@ -67,12 +46,12 @@ marks-spec =
     Inv-loop
     μ-loop
     loop-holds
-    array-read-is-wanted
-    array-read-is-wanted-2
-    is-wanted-requires
-    one-requires
-    array-write-out
-    add-i
-    loop-less
+    (λ c. search needs)
+    (λ c. search needs)
+    (λ c κs. search needs)
+    (λ c κs. search needs)
+    (λ c. search needs)
+    (λ c. search needs)
+    (λ c. search needs)
     loop-again
     returns)

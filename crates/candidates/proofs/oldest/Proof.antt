@@ -10,9 +10,6 @@ use borrow.Author.Needs.{needs}
 use Rattle.candidates.proofs.oldest.Statement.{statement}
 use Rattle.candidates.proofs.oldest.Tie as tie
 
-how-many-requires : tie.Need-how-many-requires
-how-many-requires c κs = search needs
-
 returns : tie.Need-returns
 unfolding oldest
 returns c =
@@ -20,12 +17,6 @@ returns c =
     let s = b .args .generators in
     let z = sym (c .before .how-many .ensures .0) ∙ c .if1 .taken in
     sym (ap found (found-none (b .args .want) (s .state) (s .channel) (s .key) (state-64 s (b .good .0)) z (oldestFirst (s .ages))))
-
-marks-requires : tie.Need-marks-requires
-marks-requires c κs = search needs
-
-first-marked-requires : tie.Need-first-marked-requires
-first-marked-requires c κs = search needs
 
 returns-2 : tie.Need-returns-2
 unfolding oldest
@@ -39,8 +30,8 @@ pub oldest-spec : {M : Type 1} → statement M
 oldest-spec =
     tie.close
     (tie.spec
-    how-many-requires
+    (λ c κs. search needs)
     returns
-    marks-requires
-    first-marked-requires
+    (λ c κs. search needs)
+    (λ c κs. search needs)
     returns-2)

@@ -5,19 +5,13 @@ use Rattle.controllers.specs.Controllers.{controlled}
 use Rattle.controllers.proofs.control.Statement.{statement}
 use Rattle.controllers.proofs.control.Tie as tie
 
-reset-requires : tie.Need-reset-requires
-reset-requires c κs = search needs
-
 returns : tie.Need-returns
 unfolding controlled
 returns c = simp (c .reset .ensures, c .before .if1 .taken)
-
-store-requires : tie.Need-store-requires
-store-requires c κs = search needs
 
 returns-2 : tie.Need-returns-2
 unfolding controlled
 returns-2 c = simp (c .store .ensures, c .before .if1 .left)
 
 pub control-spec : {M : Type 1} → statement M
-control-spec = tie.close (tie.spec reset-requires returns store-requires returns-2)
+control-spec = tie.close (tie.spec (λ c κs. search needs) returns (λ c κs. search needs) returns-2)

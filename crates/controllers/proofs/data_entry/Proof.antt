@@ -5,9 +5,6 @@ use Rattle.controllers.specs.Controllers.{dataEntry}
 use Rattle.controllers.proofs.data_entry.Statement.{statement}
 use Rattle.controllers.proofs.data_entry.Tie as tie
 
-at-most-requires : tie.Need-at-most-requires
-at-most-requires c κs = search needs
-
 returns : tie.Need-returns
 unfolding dataEntry
 returns c = simp (c .before .if1 .taken, c .at-most .ensures .0)
@@ -17,4 +14,4 @@ unfolding dataEntry
 returns-2 c = simp (c .if1 .left)
 
 pub data-entry-spec : {M : Type 1} → statement M
-data-entry-spec = tie.close (tie.spec at-most-requires returns returns-2)
+data-entry-spec = tie.close (tie.spec (λ c κs. search needs) returns returns-2)

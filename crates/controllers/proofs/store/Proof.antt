@@ -18,9 +18,6 @@ returns : tie.Need-returns
 unfolding stored
 returns c = rw (c .match .keys1)
 
-data-entry-requires : tie.Need-data-entry-requires
-data-entry-requires c κs = search needs
-
 returns-2 : tie.Need-returns-2
 unfolding stored
 returns-2 c = rw (c .before .match .keys2, c .data-entry .ensures)
@@ -89,7 +86,7 @@ pub store-spec : {M : Type 1} → statement M
 store-spec =
     tie.close
     (tie.spec
-    data-entry-requires
+    (λ c κs. search needs)
     returns
     returns-2
     returns-3

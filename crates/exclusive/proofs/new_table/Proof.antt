@@ -5,12 +5,9 @@ use borrow.Author.Needs.{needs}
 use Rattle.exclusive.proofs.new_table.Statement.{statement}
 use Rattle.exclusive.proofs.new_table.Tie as tie
 
-mask-requires : tie.Need-mask-requires
-mask-requires c κs = search needs
-
 returns : tie.Need-returns
 unfolding newTable
 returns c = simp (c .mask .ensures)
 
 pub new-table-spec : {M : Type 1} → statement M
-new-table-spec = tie.close (tie.spec mask-requires returns)
+new-table-spec = tie.close (tie.spec (λ c κs. search needs) returns)

@@ -1,34 +1,10 @@
 -- `exclusive::take` meets its contract, by the kind of the SysEx.
 -- Assumes nothing.
-use mathlib.Core.Path.{sym, ap, _∙_}
+use mathlib.Core.Path.{sym, _∙_}
 use Rattle.exclusive.specs.Exclusive.{exclusive}
 use borrow.Author.Needs.{needs}
 use Rattle.exclusive.proofs.take.Statement.{statement}
 use Rattle.exclusive.proofs.take.Tie as tie
-
-kind-of-requires : tie.Need-kind-of-requires
-kind-of-requires c κs = search needs
-
-enum-told : tie.Need-enum-told
-enum-told c = search needs
-
-mip-requires : tie.Need-mip-requires
-mip-requires c κs = search needs
-
-enum-told-2 : tie.Need-enum-told-2
-enum-told-2 c = search needs
-
-fresh-requires : tie.Need-fresh-requires
-fresh-requires c κs = search needs
-
-new-requires : tie.Need-new-requires
-new-requires c κs = search needs
-
-enum-told-3 : tie.Need-enum-told-3
-enum-told-3 c = search needs
-
-new-requires-2 : tie.Need-new-requires-2
-new-requires-2 c κs = search needs
 
 returns : tie.Need-returns
 unfolding exclusive
@@ -46,14 +22,14 @@ pub take-spec : {M : Type 1} → statement M
 take-spec =
     tie.close
     (tie.spec
-    kind-of-requires
-    enum-told
-    mip-requires
-    enum-told-2
-    fresh-requires
-    new-requires
-    enum-told-3
-    new-requires-2
+    (λ c κs. search needs)
+    (λ c. search needs)
+    (λ c κs. search needs)
+    (λ c. search needs)
+    (λ c κs. search needs)
+    (λ c κs. search needs)
+    (λ c. search needs)
+    (λ c κs. search needs)
     returns
     returns-2
     returns-3)

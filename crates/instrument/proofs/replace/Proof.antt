@@ -11,12 +11,6 @@ use borrow.Author.Needs.{needs}
 use Rattle.instrument.proofs.replace.Statement.{statement}
 use Rattle.instrument.proofs.replace.Tie as tie
 
-mul-out : tie.Need-mul-out
-mul-out c = search needs
-
-array-set-from-out : tie.Need-array-set-from-out
-array-set-from-out c = search needs
-
 returns : tie.Need-returns
 unfolding replaced
 returns c = refl
@@ -29,4 +23,4 @@ returns-2 c =
     sym (set-out (c .before .args .channels) (c .before .args .at) (c .before .args .c) h)
 
 pub replace-spec : {M : Type 1} → statement M
-replace-spec = tie.close (tie.spec mul-out array-set-from-out returns returns-2)
+replace-spec = tie.close (tie.spec (λ c. search needs) (λ c. search needs) returns returns-2)

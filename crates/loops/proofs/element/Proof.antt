@@ -7,9 +7,6 @@ use borrow.Author.Needs.{needs}
 use Rattle.loops.proofs.element.Statement.{statement}
 use Rattle.loops.proofs.element.Tie as tie
 
-array-read-result : tie.Need-array-read-result
-array-read-result c = search needs
-
 returns : tie.Need-returns
 returns c = search needs
 
@@ -20,4 +17,4 @@ returns-2 c =
     simp (List·getD-eq-default numbers 0 {n = c .before .args .i} h)
 
 pub element-spec : {M : Type 1} → statement M
-element-spec = tie.close (tie.spec array-read-result returns returns-2)
+element-spec = tie.close (tie.spec (λ c. search needs) returns returns-2)

@@ -29,39 +29,9 @@ Inv-loop p before after out₀ i₀ out i = (i ≤ 17) × (out ≡ upTo (rule be
 abbrev μ-loop : tie.MeasureT-loop
 μ-loop p before after out₀ i₀ out i = 17 - i
 
-unmasked-requires : tie.Need-unmasked-requires Inv-loop μ-loop
-unmasked-requires c κs = search needs
-
-unmasked-requires-2 : tie.Need-unmasked-requires-2 Inv-loop μ-loop
-unmasked-requires-2 c κs = search needs
-
 loop-holds : tie.Need-loop-holds Inv-loop μ-loop
 unfolding upTo
 loop-holds c = (omega arith, refl)
-
-cast-is-channel : tie.Need-cast-is-channel Inv-loop μ-loop
-cast-is-channel c = search needs
-
-is-channel-requires : tie.Need-is-channel-requires Inv-loop μ-loop
-is-channel-requires c κs = search needs
-
-array-read-one : tie.Need-array-read-one Inv-loop μ-loop
-array-read-one c = search needs
-
-array-read-one-2 : tie.Need-array-read-one-2 Inv-loop μ-loop
-array-read-one-2 c = search needs
-
-one-requires : tie.Need-one-requires Inv-loop μ-loop
-one-requires c κs = search needs
-
-array-write-out : tie.Need-array-write-out Inv-loop μ-loop
-array-write-out c = search needs
-
-add-i : tie.Need-add-i Inv-loop μ-loop
-add-i c = search needs
-
-loop-less : tie.Need-loop-less Inv-loop μ-loop
-loop-less c = search needs
 
 loop-again : tie.Need-loop-again Inv-loop μ-loop
 loop-again c =
@@ -88,16 +58,16 @@ marks-spec =
     (tie.spec
     Inv-loop
     μ-loop
-    unmasked-requires
-    unmasked-requires-2
+    (λ c κs. search needs)
+    (λ c κs. search needs)
     loop-holds
-    cast-is-channel
-    is-channel-requires
-    array-read-one
-    array-read-one-2
-    one-requires
-    array-write-out
-    add-i
-    loop-less
+    (λ c. search needs)
+    (λ c κs. search needs)
+    (λ c. search needs)
+    (λ c. search needs)
+    (λ c κs. search needs)
+    (λ c. search needs)
+    (λ c. search needs)
+    (λ c. search needs)
     loop-again
     returns)

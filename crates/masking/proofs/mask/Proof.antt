@@ -5,16 +5,10 @@ use borrow.Author.Needs.{needs}
 use Rattle.masking.proofs.mask.Statement.{statement}
 use Rattle.masking.proofs.mask.Tie as tie
 
-marks-requires : tie.Need-marks-requires
-marks-requires c κs = search needs
-
-release-requires : tie.Need-release-requires
-release-requires c κs = search needs
-
 returns : tie.Need-returns
 returns c =
     let a = c .before .before .before .before .args in
     simp (c .release .ensures, c .before .marks .ensures) (mask-of (a .polyphony) (a .old) (a .new) (a .generators))
 
 pub mask-spec : {M : Type 1} → statement M
-mask-spec = tie.close (tie.spec marks-requires release-requires returns)
+mask-spec = tie.close (tie.spec (λ c κs. search needs) (λ c κs. search needs) returns)

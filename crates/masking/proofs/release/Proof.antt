@@ -30,35 +30,8 @@ loop-holds : tie.Need-loop-holds Inv-loop μ-loop
 unfolding upTo
 loop-holds c = (omega arith, c .good .0 .1 .0 .1, refl)
 
-array-read-place : tie.Need-array-read-place Inv-loop μ-loop
-array-read-place c = search needs
-
-place-requires : tie.Need-place-requires Inv-loop μ-loop
-place-requires c κs = search needs
-
-array-read-is-busy : tie.Need-array-read-is-busy Inv-loop μ-loop
-array-read-is-busy c = search needs
-
-is-busy-requires : tie.Need-is-busy-requires Inv-loop μ-loop
-is-busy-requires c κs = search needs
-
 array-read-gone : tie.Need-array-read-gone Inv-loop μ-loop
 array-read-gone c = c .before .place .ensures .1
-
-array-read-if-else : tie.Need-array-read-if-else Inv-loop μ-loop
-array-read-if-else c = search needs
-
-if-else-requires : tie.Need-if-else-requires Inv-loop μ-loop
-if-else-requires c κs = search needs
-
-array-write-out : tie.Need-array-write-out Inv-loop μ-loop
-array-write-out c = search needs
-
-add-i : tie.Need-add-i Inv-loop μ-loop
-add-i c = search needs
-
-loop-less : tie.Need-loop-less Inv-loop μ-loop
-loop-less c = search needs
 
 loop-again : tie.Need-loop-again Inv-loop μ-loop
 loop-again c =
@@ -77,15 +50,15 @@ release-spec =
     Inv-loop
     μ-loop
     loop-holds
-    array-read-place
-    place-requires
-    array-read-is-busy
-    is-busy-requires
+    (λ c. search needs)
+    (λ c κs. search needs)
+    (λ c. search needs)
+    (λ c κs. search needs)
     array-read-gone
-    array-read-if-else
-    if-else-requires
-    array-write-out
-    add-i
-    loop-less
+    (λ c. search needs)
+    (λ c κs. search needs)
+    (λ c. search needs)
+    (λ c. search needs)
+    (λ c. search needs)
     loop-again
     returns)

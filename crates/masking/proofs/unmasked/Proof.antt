@@ -21,9 +21,6 @@ Inv-loop p entries n out₀ i₀ out i = (i ≤ n) × (n ≤ 16) × (length entr
 abbrev μ-loop : tie.MeasureT-loop
 μ-loop p entries n out₀ i₀ out i = 16 - i
 
-at-most-requires : tie.Need-at-most-requires Inv-loop μ-loop
-at-most-requires c κs = search needs
-
 cast-n : tie.Need-cast-n Inv-loop μ-loop
 cast-n c = omega arith
 
@@ -36,14 +33,8 @@ mul-e c = omega arith
 array-copy-out-e : tie.Need-array-copy-out-e Inv-loop μ-loop
 array-copy-out-e c = omega arith
 
-place-requires : tie.Need-place-requires Inv-loop μ-loop
-place-requires c κs = search needs
-
 array-read-if-else : tie.Need-array-read-if-else Inv-loop μ-loop
 array-read-if-else c = c .before .place .ensures .1
-
-if-else-requires : tie.Need-if-else-requires Inv-loop μ-loop
-if-else-requires c κs = search needs
 
 array-write-out : tie.Need-array-write-out Inv-loop μ-loop
 array-write-out c = c .before .before .place .ensures .1
@@ -78,14 +69,14 @@ unmasked-spec =
     (tie.spec
     Inv-loop
     μ-loop
-    at-most-requires
+    (λ c κs. search needs)
     cast-n
     loop-holds
     mul-e
     array-copy-out-e
-    place-requires
+    (λ c κs. search needs)
     array-read-if-else
-    if-else-requires
+    (λ c κs. search needs)
     array-write-out
     add-i
     loop-less

@@ -7,25 +7,16 @@ use Rattle.mip.proofs.Length.{too-long, none-or-odd, all-pairs}
 use Rattle.mip.proofs.judge.Statement.{statement}
 use Rattle.mip.proofs.judge.Tie as tie
 
-refuse-requires : tie.Need-refuse-requires
-refuse-requires c κs = search needs
-
 returns : tie.Need-returns
 returns c =
     let s = c .before .before in
     c .refuse .ensures ∙ too-long (s .args .parser .count) (s .args .parser .bytes) (bytes-37 (s .args .parser) (s .good .0)) (c .before .if1 .taken)
-
-refuse-requires-2 : tie.Need-refuse-requires-2
-refuse-requires-2 c κs = search needs
 
 returns-2 : tie.Need-returns-2
 returns-2 c =
     let s = c .before .before .before in
     c .refuse2 .ensures
     ∙ none-or-odd (s .args .parser .count) (s .args .parser .bytes) (bytes-37 (s .args .parser) (s .good .0)) (c .before .before .if1 .left) (c .before .if2 .taken)
-
-judge-pairs-requires : tie.Need-judge-pairs-requires
-judge-pairs-requires c κs = search needs
 
 returns-3 : tie.Need-returns-3
 returns-3 c =
@@ -36,4 +27,4 @@ returns-3 c =
 pub judge-spec : {M : Type 1} → statement M
 judge-spec =
     tie.close
-    (tie.spec refuse-requires returns refuse-requires-2 returns-2 judge-pairs-requires returns-3)
+    (tie.spec (λ c κs. search needs) returns (λ c κs. search needs) returns-2 (λ c κs. search needs) returns-3)

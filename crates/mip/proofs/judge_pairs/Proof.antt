@@ -2,7 +2,7 @@
 -- judgement of these entries and the pairs from i on is that of all pairs. The measure is the number of bytes left.
 -- Assumes nothing.
 use Prim.Native.Nat.{ℕ, _+_, _*_, _≤_, _-_}
-use mathlib.Core.Path.{_≡_, refl, sym, _∙_}
+use mathlib.Core.Path.{_≡_, refl, _∙_}
 use mathlib.Core.List.{_++_}
 use native.Mathlib.Omega.{arith}
 use borrow.Author.Needs.{needs}
@@ -47,9 +47,6 @@ add-v c = omega arith
 array-read-v : tie.Need-array-read-v Inv-loop μ-loop
 array-read-v c = omega arith
 
-refuse-requires : tie.Need-refuse-requires Inv-loop μ-loop
-refuse-requires c κs = search needs
-
 returns : tie.Need-returns Inv-loop μ-loop
 returns c =
     let b = c .before .before .before in
@@ -61,14 +58,8 @@ returns c =
 add-c : tie.Need-add-c Inv-loop μ-loop
 add-c c = omega arith
 
-place-requires : tie.Need-place-requires Inv-loop μ-loop
-place-requires c κs = search needs
-
 array-read-if2 : tie.Need-array-read-if2 Inv-loop μ-loop
 array-read-if2 c = c .place .ensures .1
-
-refuse-requires-2 : tie.Need-refuse-requires-2 Inv-loop μ-loop
-refuse-requires-2 c κs = search needs
 
 returns-2 : tie.Need-returns-2 Inv-loop μ-loop
 returns-2 c =
@@ -79,9 +70,6 @@ returns-2 c =
     ∙ listed-twice (p .bytes) (p .count) (l .i) (l .before) (entriesOf (l .t)) _ (omega arith) (omega arith) (l .inv .5)
     (c .before .before .before .if1 .left) (by-mark (entriesOf (l .t)) (l .listed) (c .before .before .place .result) _ false (l .inv .7) (c .before .before .place .ensures .1) (c .before .before .place .ensures .0) (ne-eqb _ _ (c .before .if2 .taken)))
 
-refuse-requires-3 : tie.Need-refuse-requires-3 Inv-loop μ-loop
-refuse-requires-3 c κs = search needs
-
 returns-3 : tie.Need-returns-3 Inv-loop μ-loop
 returns-3 c =
     let b = c .before .before .before .before .before .before in
@@ -90,9 +78,6 @@ returns-3 c =
     c .refuse3 .ensures
     ∙ value-falls (p .bytes) (p .count) (l .i) (l .before) (entriesOf (l .t)) _ (omega arith) (omega arith) (l .inv .5)
     (c .before .before .before .before .if1 .left) (by-mark (entriesOf (l .t)) (l .listed) (c .before .before .before .place .result) _ true (l .inv .7) (c .before .before .before .place .ensures .1) (c .before .before .before .place .ensures .0) (eq-eqb _ _ (c .before .before .if2 .left))) (c .before .if3 .taken)
-
-push-requires : tie.Need-push-requires Inv-loop μ-loop
-push-requires c κs = search needs
 
 array-write-listed : tie.Need-array-write-listed Inv-loop μ-loop
 array-write-listed c = c .before .before .before .place .ensures .1
@@ -133,16 +118,16 @@ judge-pairs-spec =
     array-read-m
     add-v
     array-read-v
-    refuse-requires
+    (λ c κs. search needs)
     returns
     add-c
-    place-requires
+    (λ c κs. search needs)
     array-read-if2
-    refuse-requires-2
+    (λ c κs. search needs)
     returns-2
-    refuse-requires-3
+    (λ c κs. search needs)
     returns-3
-    push-requires
+    (λ c κs. search needs)
     array-write-listed
     add-i
     loop-less

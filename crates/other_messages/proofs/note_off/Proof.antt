@@ -6,21 +6,9 @@ use borrow.Author.Needs.{needs}
 use Rattle.other_messages.proofs.note_off.Statement.{statement}
 use Rattle.other_messages.proofs.note_off.Tie as tie
 
-is-rhythm-requires : tie.Need-is-rhythm-requires
-is-rhythm-requires c κs = search needs
-
 returns : tie.Need-returns
 unfolding playNoteOff
 returns c = simp (sym (c .before .is-rhythm .ensures) ∙ c .if1 .taken)
-
-pedal-down-requires : tie.Need-pedal-down-requires
-pedal-down-requires c κs = search needs
-
-apply-requires : tie.Need-apply-requires
-apply-requires c κs = search needs
-
-with-generators-requires : tie.Need-with-generators-requires
-with-generators-requires c κs = search needs
 
 returns-2 : tie.Need-returns-2
 unfolding playNoteOff
@@ -30,9 +18,9 @@ pub note-off-spec : {M : Type 1} → statement M
 note-off-spec =
     tie.close
     (tie.spec
-    is-rhythm-requires
+    (λ c κs. search needs)
     returns
-    pedal-down-requires
-    apply-requires
-    with-generators-requires
+    (λ c κs. search needs)
+    (λ c κs. search needs)
+    (λ c κs. search needs)
     returns-2)

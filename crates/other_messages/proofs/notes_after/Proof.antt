@@ -6,21 +6,9 @@ use borrow.Author.Needs.{needs}
 use Rattle.other_messages.proofs.notes_after.Statement.{statement}
 use Rattle.other_messages.proofs.notes_after.Tie as tie
 
-lifts-pedal-requires : tie.Need-lifts-pedal-requires
-lifts-pedal-requires c κs = search needs
-
-apply-requires : tie.Need-apply-requires
-apply-requires c κs = search needs
-
 returns : tie.Need-returns
 unfolding notesAfter
 returns c = simp (sym (c .before .before .lifts-pedal .ensures) ∙ c .before .if1 .taken, c .apply .ensures)
-
-silences-all-requires : tie.Need-silences-all-requires
-silences-all-requires c κs = search needs
-
-fall-silent-requires : tie.Need-fall-silent-requires
-fall-silent-requires c κs = search needs
 
 returns-2 : tie.Need-returns-2
 unfolding notesAfter
@@ -31,12 +19,6 @@ returns-2 c =
       sym (b .silences-all .ensures) ∙ c .before .if2 .taken,
       c .fall-silent .ensures,
     )
-
-ends-all-requires : tie.Need-ends-all-requires
-ends-all-requires c κs = search needs
-
-apply-requires-2 : tie.Need-apply-requires-2
-apply-requires-2 c κs = search needs
 
 returns-3 : tie.Need-returns-3
 unfolding notesAfter
@@ -65,13 +47,13 @@ pub notes-after-spec : {M : Type 1} → statement M
 notes-after-spec =
     tie.close
     (tie.spec
-    lifts-pedal-requires
-    apply-requires
+    (λ c κs. search needs)
+    (λ c κs. search needs)
     returns
-    silences-all-requires
-    fall-silent-requires
+    (λ c κs. search needs)
+    (λ c κs. search needs)
     returns-2
-    ends-all-requires
-    apply-requires-2
+    (λ c κs. search needs)
+    (λ c κs. search needs)
     returns-3
     returns-4)

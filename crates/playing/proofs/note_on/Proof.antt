@@ -5,18 +5,9 @@ use borrow.Author.Needs.{needs}
 use Rattle.playing.proofs.note_on.Statement.{statement}
 use Rattle.playing.proofs.note_on.Tie as tie
 
-sound-requires : tie.Need-sound-requires
-sound-requires c κs = search needs
-
-with-generators-requires : tie.Need-with-generators-requires
-with-generators-requires c κs = search needs
-
-new-requires : tie.Need-new-requires
-new-requires c κs = search needs
-
 returns : tie.Need-returns
 unfolding playNoteOn
 returns c = simp (c .new .ensures, c .before .with-generators .ensures, c .before .before .before .sound .ensures)
 
 pub note-on-spec : {M : Type 1} → statement M
-note-on-spec = tie.close (tie.spec sound-requires with-generators-requires new-requires returns)
+note-on-spec = tie.close (tie.spec (λ c κs. search needs) (λ c κs. search needs) (λ c κs. search needs) returns)

@@ -3,8 +3,6 @@
 -- Assumes nothing.
 use mathlib.Core.Path.{ap}
 use mathlib.Core.Bool.{Bool}
-use mathlib.Core.List.{List}
-use Prim.Native.Nat.{ℕ}
 use Rattle.loops.specs.Cases.{if_then_else_}
 use Rattle.loops.proofs.Fill.{upTo-same}
 use Rattle.generators.specs.Generators.{at}
@@ -12,15 +10,6 @@ use Rattle.releases.specs.Releases.{stateAfter, withStates, changed}
 use borrow.Author.Needs.{needs}
 use Rattle.releases.proofs.apply.Statement.{statement}
 use Rattle.releases.proofs.apply.Tie as tie
-
-select-requires : tie.Need-select-requires
-select-requires c κs = search needs
-
-state-after-requires : tie.Need-state-after-requires
-state-after-requires c κs = search needs
-
-states-after-requires : tie.Need-states-after-requires
-states-after-requires c κs = search needs
 
 returns : tie.Need-returns
 unfolding changed
@@ -32,4 +21,4 @@ returns c =
 
 pub apply-spec : {M : Type 1} → statement M
 apply-spec =
-    tie.close (tie.spec select-requires state-after-requires states-after-requires returns)
+    tie.close (tie.spec (λ c κs. search needs) (λ c κs. search needs) (λ c κs. search needs) returns)

@@ -4,12 +4,6 @@ use borrow.Author.Needs.{needs}
 use Rattle.releases.proofs.is_one_of.Statement.{statement}
 use Rattle.releases.proofs.is_one_of.Tie as tie
 
-enum-known-keys : tie.Need-enum-known-keys
-enum-known-keys c = search needs
-
-enum-told : tie.Need-enum-told
-enum-told c = search needs
-
 returns : tie.Need-returns
 returns c = simp (c .before .keys .given .1)
 
@@ -17,4 +11,4 @@ returns-2 : tie.Need-returns-2
 returns-2 c = search needs
 
 pub is-one-of-spec : {M : Type 1} → statement M
-is-one-of-spec = tie.close (tie.spec enum-known-keys enum-told returns returns-2)
+is-one-of-spec = tie.close (tie.spec (λ c. search needs) (λ c. search needs) returns returns-2)

@@ -5,12 +5,9 @@ use borrow.Author.Needs.{needs}
 use Rattle.releases.proofs.selects.Statement.{statement}
 use Rattle.releases.proofs.selects.Tie as tie
 
-is-one-of-requires : tie.Need-is-one-of-requires
-is-one-of-requires c κs = search needs
-
 returns : tie.Need-returns
 unfolding selects
 returns c = simp (c .is-one-of .ensures)
 
 pub selects-spec : {M : Type 1} → statement M
-selects-spec = tie.close (tie.spec is-one-of-requires returns)
+selects-spec = tie.close (tie.spec (λ c κs. search needs) returns)

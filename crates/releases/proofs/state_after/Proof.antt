@@ -5,27 +5,6 @@ use borrow.Author.Needs.{needs}
 use Rattle.releases.proofs.state_after.Statement.{statement}
 use Rattle.releases.proofs.state_after.Tie as tie
 
-enum-told : tie.Need-enum-told
-enum-told c = search needs
-
-enum-told-2 : tie.Need-enum-told-2
-enum-told-2 c = search needs
-
-enum-known-change : tie.Need-enum-known-change
-enum-known-change c = search needs
-
-key-up-requires : tie.Need-key-up-requires
-key-up-requires c κs = search needs
-
-enum-known-change-2 : tie.Need-enum-known-change-2
-enum-known-change-2 c = search needs
-
-key-up-requires-2 : tie.Need-key-up-requires-2
-key-up-requires-2 c κs = search needs
-
-enum-told-3 : tie.Need-enum-told-3
-enum-told-3 c = search needs
-
 returns : tie.Need-returns
 unfolding stateAfter
 returns c = simp (c .enum-told .given .1)
@@ -50,13 +29,13 @@ pub state-after-spec : {M : Type 1} → statement M
 state-after-spec =
     tie.close
     (tie.spec
-    enum-told
-    enum-told-2
-    enum-known-change
-    key-up-requires
-    enum-known-change-2
-    key-up-requires-2
-    enum-told-3
+    (λ c. search needs)
+    (λ c. search needs)
+    (λ c. search needs)
+    (λ c κs. search needs)
+    (λ c. search needs)
+    (λ c κs. search needs)
+    (λ c. search needs)
     returns
     returns-2
     returns-3

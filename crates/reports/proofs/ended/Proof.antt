@@ -7,32 +7,14 @@ use borrow.Author.Needs.{needs}
 use Rattle.reports.proofs.ended.Statement.{statement}
 use Rattle.reports.proofs.ended.Tie as tie
 
-new-requires : tie.Need-new-requires
-new-requires c κs = search needs
-
 returns : tie.Need-returns
 unfolding reported
 returns c = simp (le-leb _ _ (c .before .if1 .taken), c .new .ensures)
-
-element-requires : tie.Need-element-requires
-element-requires c κs = search needs
-
-new-requires-2 : tie.Need-new-requires-2
-new-requires-2 c κs = search needs
 
 returns-2 : tie.Need-returns-2
 unfolding reported
 returns-2 c =
     simp (lt-leb _ _ (c .before .before .before .before .before .if1 .left), sym (c .before .before .element .ensures), eq-eqb _ _ (c .before .if2 .taken), c .new2 .ensures)
-
-fall-silent-requires : tie.Need-fall-silent-requires
-fall-silent-requires c κs = search needs
-
-with-generators-requires : tie.Need-with-generators-requires
-with-generators-requires c κs = search needs
-
-new-requires-3 : tie.Need-new-requires-3
-new-requires-3 c κs = search needs
 
 returns-3 : tie.Need-returns-3
 unfolding reported
@@ -44,12 +26,12 @@ pub ended-spec : {M : Type 1} → statement M
 ended-spec =
     tie.close
     (tie.spec
-    new-requires
+    (λ c κs. search needs)
     returns
-    element-requires
-    new-requires-2
+    (λ c κs. search needs)
+    (λ c κs. search needs)
     returns-2
-    fall-silent-requires
-    with-generators-requires
-    new-requires-3
+    (λ c κs. search needs)
+    (λ c κs. search needs)
+    (λ c κs. search needs)
     returns-3)

@@ -5,15 +5,6 @@ use borrow.Author.Needs.{needs}
 use Rattle.shares.proofs.masks.Statement.{statement}
 use Rattle.shares.proofs.masks.Tie as tie
 
-share-of-requires : tie.Need-share-of-requires
-share-of-requires c κs = search needs
-
-enum-told : tie.Need-enum-told
-enum-told c = search needs
-
-enum-told-2 : tie.Need-enum-told-2
-enum-told-2 c = search needs
-
 returns : tie.Need-returns
 returns c = rw (sym (c .before .before .share-of .ensures) ∙ c .enum-told .given .1)
 
@@ -21,4 +12,4 @@ returns-2 : tie.Need-returns-2
 returns-2 c = rw (sym (c .before .before .share-of .ensures) ∙ c .enum-told2 .given .1)
 
 pub masks-spec : {M : Type 1} → statement M
-masks-spec = tie.close (tie.spec share-of-requires enum-told enum-told-2 returns returns-2)
+masks-spec = tie.close (tie.spec (λ c κs. search needs) (λ c. search needs) (λ c. search needs) returns returns-2)

@@ -22,9 +22,6 @@ Inv-loop p c entries n before₀ i₀ before i = (i ≤ n) × (n ≤ 16) × (len
 abbrev μ-loop : tie.MeasureT-loop
 μ-loop p c entries n before₀ i₀ before i = 16 - i
 
-at-most-requires : tie.Need-at-most-requires Inv-loop μ-loop
-at-most-requires c κs = search needs
-
 cast-n : tie.Need-cast-n Inv-loop μ-loop
 cast-n c = omega arith
 
@@ -36,9 +33,6 @@ mul-e c = omega arith
 
 array-copy-out-e : tie.Need-array-copy-out-e Inv-loop μ-loop
 array-copy-out-e c = omega arith
-
-less-requires : tie.Need-less-requires Inv-loop μ-loop
-less-requires c κs = search needs
 
 returns : tie.Need-returns Inv-loop μ-loop
 unfolding shareOf
@@ -78,12 +72,12 @@ share-of-spec =
     (tie.spec
     Inv-loop
     μ-loop
-    at-most-requires
+    (λ c κs. search needs)
     cast-n
     loop-holds
     mul-e
     array-copy-out-e
-    less-requires
+    (λ c κs. search needs)
     returns
     add-i
     loop-less

@@ -7,21 +7,6 @@ use borrow.Author.Needs.{needs}
 use Rattle.silence.proofs.fall_silent.Statement.{statement}
 use Rattle.silence.proofs.fall_silent.Tie as tie
 
-marks-requires : tie.Need-marks-requires
-marks-requires c κs = search needs
-
-without-requires : tie.Need-without-requires
-without-requires c κs = search needs
-
-unmarked-requires : tie.Need-unmarked-requires
-unmarked-requires c κs = search needs
-
-unmarked-requires-2 : tie.Need-unmarked-requires-2
-unmarked-requires-2 c κs = search needs
-
-unmarked-requires-3 : tie.Need-unmarked-requires-3
-unmarked-requires-3 c κs = search needs
-
 returns : tie.Need-returns
 returns c =
     let b = c .before .before .before .before .before in
@@ -34,9 +19,9 @@ pub fall-silent-spec : {M : Type 1} → statement M
 fall-silent-spec =
     tie.close
     (tie.spec
-    marks-requires
-    without-requires
-    unmarked-requires
-    unmarked-requires-2
-    unmarked-requires-3
+    (λ c κs. search needs)
+    (λ c κs. search needs)
+    (λ c κs. search needs)
+    (λ c κs. search needs)
+    (λ c κs. search needs)
     returns)

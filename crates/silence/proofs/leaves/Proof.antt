@@ -11,18 +11,6 @@ returns : tie.Need-returns
 unfolding leaves
 returns c = simp (eq-eqb _ _ (c .if1 .taken))
 
-enum-known-leaving : tie.Need-enum-known-leaving
-enum-known-leaving c = search needs
-
-enum-known-leaving-2 : tie.Need-enum-known-leaving-2
-enum-known-leaving-2 c = search needs
-
-enum-known-leaving-3 : tie.Need-enum-known-leaving-3
-enum-known-leaving-3 c = search needs
-
-excluded-requires : tie.Need-excluded-requires
-excluded-requires c κs = search needs
-
 returns-2 : tie.Need-returns-2
 unfolding leaves isAmong
 returns-2 c = simp (ne-eqb _ _ (c .before .before .before .if1 .left), c .before .leaving .given .1)
@@ -40,10 +28,10 @@ leaves-spec =
     tie.close
     (tie.spec
     returns
-    enum-known-leaving
-    enum-known-leaving-2
-    enum-known-leaving-3
-    excluded-requires
+    (λ c. search needs)
+    (λ c. search needs)
+    (λ c. search needs)
+    (λ c κs. search needs)
     returns-2
     returns-3
     returns-4)

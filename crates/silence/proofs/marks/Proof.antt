@@ -33,33 +33,6 @@ loop-holds : tie.Need-loop-holds Inv-loop μ-loop
 unfolding upTo
 loop-holds c = (omega arith, c .good .0 .1 .0 .1, refl)
 
-cast-leaves : tie.Need-cast-leaves Inv-loop μ-loop
-cast-leaves c = search needs
-
-array-read-leaves : tie.Need-array-read-leaves Inv-loop μ-loop
-array-read-leaves c = search needs
-
-array-read-leaves-2 : tie.Need-array-read-leaves-2 Inv-loop μ-loop
-array-read-leaves-2 c = search needs
-
-array-read-leaves-3 : tie.Need-array-read-leaves-3 Inv-loop μ-loop
-array-read-leaves-3 c = search needs
-
-leaves-requires : tie.Need-leaves-requires Inv-loop μ-loop
-leaves-requires c κs = search needs
-
-one-requires : tie.Need-one-requires Inv-loop μ-loop
-one-requires c κs = search needs
-
-array-write-out : tie.Need-array-write-out Inv-loop μ-loop
-array-write-out c = search needs
-
-add-i : tie.Need-add-i Inv-loop μ-loop
-add-i c = search needs
-
-loop-less : tie.Need-loop-less Inv-loop μ-loop
-loop-less c = search needs
-
 loop-again : tie.Need-loop-again Inv-loop μ-loop
 loop-again c =
     let l = c .before .before .before .loop in
@@ -81,14 +54,14 @@ marks-spec =
     Inv-loop
     μ-loop
     loop-holds
-    cast-leaves
-    array-read-leaves
-    array-read-leaves-2
-    array-read-leaves-3
-    leaves-requires
-    one-requires
-    array-write-out
-    add-i
-    loop-less
+    (λ c. search needs)
+    (λ c. search needs)
+    (λ c. search needs)
+    (λ c. search needs)
+    (λ c κs. search needs)
+    (λ c κs. search needs)
+    (λ c. search needs)
+    (λ c. search needs)
+    (λ c. search needs)
     loop-again
     returns)

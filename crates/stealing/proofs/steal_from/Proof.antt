@@ -23,43 +23,16 @@ Inv-loop s p new entries i₀ i =
 abbrev μ-loop : tie.MeasureT-loop
 μ-loop s p new entries i₀ i = i
 
-at-most-requires : tie.Need-at-most-requires Inv-loop μ-loop
-at-most-requires c κs = search needs
-
 loop-holds : tie.Need-loop-holds Inv-loop μ-loop
 loop-holds c =
     let a = c .before .before in
     (omega (arith, c .at-most .ensures .1), entries-16 (a .args .table) (a .good .1 .0), refl)
-
-sub-i : tie.Need-sub-i Inv-loop μ-loop
-sub-i c = search needs
-
-cast-e : tie.Need-cast-e Inv-loop μ-loop
-cast-e c = search needs
-
-mul-e : tie.Need-mul-e Inv-loop μ-loop
-mul-e c = search needs
-
-array-copy-out-e : tie.Need-array-copy-out-e Inv-loop μ-loop
-array-copy-out-e c = search needs
-
-less-requires : tie.Need-less-requires Inv-loop μ-loop
-less-requires c κs = search needs
-
-cast-x : tie.Need-cast-x Inv-loop μ-loop
-cast-x c = search needs
 
 mul-x : tie.Need-mul-x Inv-loop μ-loop
 mul-x c = omega (arith, c .less .ensures, c .before .before .before .loop .inv .0)
 
 array-copy-out-x : tie.Need-array-copy-out-x Inv-loop μ-loop
 array-copy-out-x c = omega (arith, c .less .ensures, c .before .before .before .loop .inv .0)
-
-if-else-requires : tie.Need-if-else-requires Inv-loop μ-loop
-if-else-requires c κs = search needs
-
-is-over-requires : tie.Need-is-over-requires Inv-loop μ-loop
-is-over-requires c κs = search needs
 
 returns : tie.Need-returns Inv-loop μ-loop
 unfolding stealFrom
@@ -72,9 +45,6 @@ returns c =
     let t = rw (d .if-else .ensures, d .before .before .less .ensures) at (sym (c .before .is-over .ensures) ∙ c .if1 .taken) in
     rw (← (take-at-most 16 (a .table .count) (a .table .entries) (b .loop .inv .1)), ← (m .ensures .0))
     (ap toLoser (over-yes (a .polyphony) (counted (a .generators) (a .channel)) (a .table .entries) (b .loop .i) h (omega arith) _ (b .loop .inv .2) t))
-
-loop-less : tie.Need-loop-less Inv-loop μ-loop
-loop-less c = search needs
 
 loop-again : tie.Need-loop-again Inv-loop μ-loop
 loop-again c =
@@ -100,19 +70,19 @@ steal-from-spec =
     (tie.spec
     Inv-loop
     μ-loop
-    at-most-requires
+    (λ c κs. search needs)
     loop-holds
-    sub-i
-    cast-e
-    mul-e
-    array-copy-out-e
-    less-requires
-    cast-x
+    (λ c. search needs)
+    (λ c. search needs)
+    (λ c. search needs)
+    (λ c. search needs)
+    (λ c κs. search needs)
+    (λ c. search needs)
     mul-x
     array-copy-out-x
-    if-else-requires
-    is-over-requires
+    (λ c κs. search needs)
+    (λ c κs. search needs)
     returns
-    loop-less
+    (λ c. search needs)
     loop-again
     returns-2)

@@ -7,21 +7,9 @@ use borrow.Author.Needs.{needs}
 use Rattle.stealing.proofs.victim.Statement.{statement}
 use Rattle.stealing.proofs.victim.Tie as tie
 
-steal-from-requires : tie.Need-steal-from-requires
-steal-from-requires c κs = search needs
-
-enum-known-d : tie.Need-enum-known-d
-enum-known-d c = search needs
-
-enum-told : tie.Need-enum-told
-enum-told c = search needs
-
 returns : tie.Need-returns
 unfolding victim
 returns c = simp (sym (c .before .before .steal-from .ensures) ∙ c .enum-told .given .1)
-
-oldest-requires : tie.Need-oldest-requires
-oldest-requires c κs = search needs
 
 returns-2 : tie.Need-returns-2
 unfolding victim
@@ -33,9 +21,9 @@ pub victim-spec : {M : Type 1} → statement M
 victim-spec =
     tie.close
     (tie.spec
-    steal-from-requires
-    enum-known-d
-    enum-told
+    (λ c κs. search needs)
+    (λ c. search needs)
+    (λ c. search needs)
     returns
-    oldest-requires
+    (λ c κs. search needs)
     returns-2)

@@ -8,18 +8,12 @@ use Rattle.sysex.proofs.Head.{mip-head, system-on-head}
 use Rattle.sysex.proofs.kind_of.Statement.{statement}
 use Rattle.sysex.proofs.kind_of.Tie as tie
 
-starts-with-requires : tie.Need-starts-with-requires
-starts-with-requires c κs = search needs
-
 returns : tie.Need-returns
 unfolding kindOf
 returns c =
     let s = c .before .before .before in
     let size = bytes-37 (s .args .parser) (s .good .0) in
     simp (mip-head (s .args .id) (s .args .parser .count) (s .args .parser .bytes) size ∙ (rw (c .before .starts-with .ensures) at (c .if1 .taken)))
-
-starts-with-requires-2 : tie.Need-starts-with-requires-2
-starts-with-requires-2 c κs = search needs
 
 returns-2 : tie.Need-returns-2
 unfolding kindOf
@@ -46,4 +40,4 @@ returns-3 c =
 pub kind-of-spec : {M : Type 1} → statement M
 kind-of-spec =
     tie.close
-    (tie.spec starts-with-requires returns starts-with-requires-2 returns-2 returns-3)
+    (tie.spec (λ c κs. search needs) returns (λ c κs. search needs) returns-2 returns-3)

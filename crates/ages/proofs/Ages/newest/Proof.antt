@@ -17,15 +17,6 @@ returns : tie.Need-returns
 unfolding newest
 returns c = simp (le-ltb _ _ (c .if1 .taken))
 
-array-write-mark : tie.Need-array-write-mark
-array-write-mark c = search needs
-
-without-requires : tie.Need-without-requires
-without-requires c κs = search needs
-
-push-requires : tie.Need-push-requires
-push-requires c κs = search needs
-
 returns-2 : tie.Need-returns-2
 unfolding newest without
 returns-2 c =
@@ -36,4 +27,4 @@ returns-2 c =
 
 pub newest-spec : {M : Type 1} → statement M
 newest-spec =
-    tie.close (tie.spec returns array-write-mark without-requires push-requires returns-2)
+    tie.close (tie.spec returns (λ c. search needs) (λ c κs. search needs) (λ c κs. search needs) returns-2)

@@ -6,15 +6,6 @@ use Rattle.ages.specs.Ages.{pushed}
 use Rattle.ages.proofs.Ages.push.Statement.{statement}
 use Rattle.ages.proofs.Ages.push.Tie as tie
 
-cast-at : tie.Need-cast-at
-cast-at c = search needs
-
-element-write-next : tie.Need-element-write-next
-element-write-next c = search needs
-
-add-next : tie.Need-add-next
-add-next c = search needs
-
 returns : tie.Need-returns
 unfolding pushed
 returns c = simp (lt-ltb _ _ (c .before .if1 .taken))
@@ -24,4 +15,4 @@ unfolding pushed
 returns-2 c = simp (le-ltb _ _ (c .if1 .left))
 
 pub push-spec : {M : Type 1} → statement M
-push-spec = tie.close (tie.spec cast-at element-write-next add-next returns returns-2)
+push-spec = tie.close (tie.spec (λ c. search needs) (λ c. search needs) (λ c. search needs) returns returns-2)

@@ -29,44 +29,14 @@ Inv-loop marks order n kept₀ m₀ i₀ out m i =
 abbrev μ-loop : tie.MeasureT-loop
 μ-loop marks order n kept₀ m₀ i₀ out m i = n - i
 
-at-most-requires : tie.Need-at-most-requires Inv-loop μ-loop
-at-most-requires c κs = search needs
-
-cast-n : tie.Need-cast-n Inv-loop μ-loop
-cast-n c = search needs
-
 loop-holds : tie.Need-loop-holds Inv-loop μ-loop
 unfolding filterBy padded
 loop-holds c =
     let a = c .before .before in
     (omega arith, c .at-most .ensures .1, generator-64 (a .args .self) (a .good .0), omega arith, refl, refl, refl)
 
-array-read-g : tie.Need-array-read-g Inv-loop μ-loop
-array-read-g c = search needs
-
-cast-at : tie.Need-cast-at Inv-loop μ-loop
-cast-at c = search needs
-
-array-write-kept : tie.Need-array-write-kept Inv-loop μ-loop
-array-write-kept c = search needs
-
-place-requires : tie.Need-place-requires Inv-loop μ-loop
-place-requires c κs = search needs
-
 array-read-one : tie.Need-array-read-one Inv-loop μ-loop
 array-read-one c = c .place .ensures .1
-
-one-requires : tie.Need-one-requires Inv-loop μ-loop
-one-requires c κs = search needs
-
-add-m : tie.Need-add-m Inv-loop μ-loop
-add-m c = search needs
-
-add-i : tie.Need-add-i Inv-loop μ-loop
-add-i c = search needs
-
-loop-less : tie.Need-loop-less Inv-loop μ-loop
-loop-less c = search needs
 
 loop-again : tie.Need-loop-again Inv-loop μ-loop
 loop-again c =
@@ -82,12 +52,6 @@ loop-again c =
     let s = length-set (l .kept) (l .m) (getD order (l .i) 0) in
     let e = c .one .ensures .0 ∙ ap (λ (n : ℕ). bit (unmarked (a .t2) n)) (c .before .place .ensures .0) in
     (omega arith, l .inv .1, l .inv .2, omega (arith, c .one .ensures .1), rw e q, s ∙ l .inv .5, rw e r)
-
-cast-end : tie.Need-cast-end Inv-loop μ-loop
-cast-end c = search needs
-
-array-write-kept-2 : tie.Need-array-write-kept-2 Inv-loop μ-loop
-array-write-kept-2 c = search needs
 
 returns : tie.Need-returns Inv-loop μ-loop
 unfolding without
@@ -116,20 +80,20 @@ without-spec =
     (tie.spec
     Inv-loop
     μ-loop
-    at-most-requires
-    cast-n
+    (λ c κs. search needs)
+    (λ c. search needs)
     loop-holds
-    array-read-g
-    cast-at
-    array-write-kept
-    place-requires
+    (λ c. search needs)
+    (λ c. search needs)
+    (λ c. search needs)
+    (λ c κs. search needs)
     array-read-one
-    one-requires
-    add-m
-    add-i
-    loop-less
+    (λ c κs. search needs)
+    (λ c. search needs)
+    (λ c. search needs)
+    (λ c. search needs)
     loop-again
-    cast-end
-    array-write-kept-2
+    (λ c. search needs)
+    (λ c. search needs)
     returns
     returns-2)

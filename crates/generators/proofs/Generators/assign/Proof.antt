@@ -10,18 +10,6 @@ returns : tie.Need-returns
 unfolding assigned
 returns c = simp (le-ltb _ _ (c .if1 .taken))
 
-newest-requires : tie.Need-newest-requires
-newest-requires c κs = search needs
-
-array-write-state : tie.Need-array-write-state
-array-write-state c = search needs
-
-array-write-channels : tie.Need-array-write-channels
-array-write-channels c = search needs
-
-array-write-keys : tie.Need-array-write-keys
-array-write-keys c = search needs
-
 returns-2 : tie.Need-returns-2
 unfolding assigned
 returns-2 c = simp (lt-ltb _ _ (c .before .before .before .before .before .if1 .left), c .newest .ensures)
@@ -31,8 +19,8 @@ assign-spec =
     tie.close
     (tie.spec
     returns
-    newest-requires
-    array-write-state
-    array-write-channels
-    array-write-keys
+    (λ c κs. search needs)
+    (λ c. search needs)
+    (λ c. search needs)
+    (λ c. search needs)
     returns-2)

@@ -1,7 +1,7 @@
 -- `instrument::Instrument::channel_of` meets its contract: below 16 the place is in the array, from 16 on the
 -- definition gives a fresh channel too.
 -- Assumes nothing.
-use mathlib.Core.Path.{_≡_, sym, ap, _∙_}
+use mathlib.Core.Path.{sym, ap, _∙_}
 use Prim.Native.Nat.{ℕ, _≤_, _-_}
 use native.Mathlib.Omega.{arith}
 use lib.ListN.{length, getD, List·getD-eq-default}
@@ -13,18 +13,6 @@ use borrow.Author.Needs.{needs}
 use Rattle.instrument.proofs.Instrument.channel_of.Statement.{statement}
 use Rattle.instrument.proofs.Instrument.channel_of.Tie as tie
 
-less-requires : tie.Need-less-requires
-less-requires c κs = search needs
-
-cast-place : tie.Need-cast-place
-cast-place c = search needs
-
-mul-result : tie.Need-mul-result
-mul-result c = search needs
-
-array-copy-out-result : tie.Need-array-copy-out-result
-array-copy-out-result c = search needs
-
 returns : tie.Need-returns
 unfolding channelOf channelAt
 returns c =
@@ -33,9 +21,6 @@ returns c =
     let l = s .args .self .channels in
     let n = channels-16 (s .args .self) (s .good .0) in
     any-default _ fresh l (b .less .result) (omega arith) ∙ ap (λ (k : ℕ). getD l k fresh) (b .less .ensures)
-
-fresh-requires : tie.Need-fresh-requires
-fresh-requires c κs = search needs
 
 returns-2 : tie.Need-returns-2
 unfolding channelOf channelAt
@@ -51,10 +36,10 @@ pub channel-of-spec : {M : Type 1} → statement M
 channel-of-spec =
     tie.close
     (tie.spec
-    less-requires
-    cast-place
-    mul-result
-    array-copy-out-result
+    (λ c κs. search needs)
+    (λ c. search needs)
+    (λ c. search needs)
+    (λ c. search needs)
     returns
-    fresh-requires
+    (λ c κs. search needs)
     returns-2)

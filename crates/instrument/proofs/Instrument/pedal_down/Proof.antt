@@ -4,11 +4,8 @@ use borrow.Author.Needs.{needs}
 use Rattle.instrument.proofs.Instrument.pedal_down.Statement.{statement}
 use Rattle.instrument.proofs.Instrument.pedal_down.Tie as tie
 
-channel-of-requires : tie.Need-channel-of-requires
-channel-of-requires c κs = search needs
-
 returns : tie.Need-returns
 returns c = simp (c .before .channel-of .ensures)
 
 pub pedal-down-spec : {M : Type 1} → statement M
-pedal-down-spec = tie.close (tie.spec channel-of-requires returns)
+pedal-down-spec = tie.close (tie.spec (λ c κs. search needs) returns)

@@ -8,12 +8,6 @@ use borrow.Author.Needs.{needs}
 use Rattle.instrument.proofs.Instrument.with_channel.Statement.{statement}
 use Rattle.instrument.proofs.Instrument.with_channel.Tie as tie
 
-less-requires : tie.Need-less-requires
-less-requires c κs = search needs
-
-replace-requires : tie.Need-replace-requires
-replace-requires c κs = search needs
-
 returns : tie.Need-returns
 unfolding withChannel
 returns c =
@@ -21,4 +15,4 @@ returns c =
     ap (withChannels (a .self)) (c .replace .ensures ∙ ap (λ (k : ℕ). replaced (a .self .channels) k (a .x)) (c .before .less .ensures))
 
 pub with-channel-spec : {M : Type 1} → statement M
-with-channel-spec = tie.close (tie.spec less-requires replace-requires returns)
+with-channel-spec = tie.close (tie.spec (λ c κs. search needs) (λ c κs. search needs) returns)
