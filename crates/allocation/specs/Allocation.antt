@@ -23,7 +23,8 @@ use Rattle.allocation.specs.declared.Allocated.{Allocated}
 
 -- R5.2, R5.3: steps 2 and 3, what the new note ends
 unfoldable pub cleared : Bool → ℕ → ℕ → Generators → Generators
-cleared rhythm c k s = if rhythm then silenced (Group c k) (changed (ReleaseNote c k) s) else changed (ReleaseNote c k) s
+cleared rhythm c k s =
+    if rhythm then silenced (Group c k) (changed (ReleaseNote c k) s) else changed (ReleaseNote c k) s
 
 -- R4.11: of what a generator was, a theft
 abbrev pub isStolen : Was → Bool

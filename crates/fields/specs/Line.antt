@@ -26,7 +26,8 @@ abbrev pub withDigit : ℕ → ℕ → ℕ
 withDigit n d = kept (10 * n + d)
 
 unfoldable pub afterDigit : Line → ℕ → Line
-afterDigit c d = record { commas = c .commas; digit = true; first = c .first; previous = c .previous; last = withDigit (c .last) d }
+afterDigit c d =
+    record { commas = c .commas; digit = true; first = c .first; previous = c .previous; last = withDigit (c .last) d }
 
 -- a comma behind the first or the second number: the numbers move up, so that the one that is read is always the last
 abbrev pub isParted : Line → ℕ → Bool

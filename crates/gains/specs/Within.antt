@@ -11,7 +11,8 @@ use lib.Ieee.{Float, nan, inf, fin, up, down}
 abbrev pub Within : ℕ → Float → ℕ → ℕ → Type 0
 Within M nan a c = ⊥
 Within M (inf s) a c = ⊥
-Within M (fin s m e) a c = (s ≡ false) × (m * up e * c * M ≤ (a * M + c) * down e) × (a * M * down e ≤ (m * up e * M + down e) * c)
+Within M (fin s m e) a c =
+    (s ≡ false) × (m * up e * c * M ≤ (a * M + c) * down e) × (a * M * down e ≤ (m * up e * M + down e) * c)
 
 abbrev pub AtMost1 : Float → Type 0
 AtMost1 nan = ⊥

@@ -27,13 +27,16 @@ unfoldable pub fresh : ℕ → ℕ → Instrument
 fresh p id = record { polyphony = p; id = id; table = startTable p; channels = freshChannels; generators = silent }
 
 abbrev pub withTable : Instrument → Table → Instrument
-withTable i t = record { polyphony = i .polyphony; id = i .id; table = t; channels = i .channels; generators = i .generators }
+withTable i t =
+    record { polyphony = i .polyphony; id = i .id; table = t; channels = i .channels; generators = i .generators }
 
 abbrev pub withChannels : Instrument → List Channel → Instrument
-withChannels i l = record { polyphony = i .polyphony; id = i .id; table = i .table; channels = l; generators = i .generators }
+withChannels i l =
+    record { polyphony = i .polyphony; id = i .id; table = i .table; channels = l; generators = i .generators }
 
 abbrev pub withGenerators : Instrument → Generators → Instrument
-withGenerators i s = record { polyphony = i .polyphony; id = i .id; table = i .table; channels = i .channels; generators = s }
+withGenerators i s =
+    record { polyphony = i .polyphony; id = i .id; table = i .table; channels = i .channels; generators = s }
 
 -- the record of channel c
 unfoldable pub channelOf : Instrument → ℕ → Channel

@@ -73,7 +73,8 @@ withTable b t = record { polyphony = b .polyphony; id = b .id; notes = b .notes;
 
 -- R9.4: a fresh book
 abbrev pub freshBook : ℕ → ℕ → Book
-freshBook p id = record { polyphony = p; id = id; notes = λ g. empty; holds = λ c. 0; table = map (λ (c : ℕ). entry c p) startOrder }
+freshBook p id =
+    record { polyphony = p; id = id; notes = λ g. empty; holds = λ c. 0; table = map (λ (c : ℕ). entry c p) startOrder }
 
 -- R9.3: the book of a start, of P 1 and own ID 0 where that was refused
 abbrev pub startBook : ℕ → ℕ → Answer → Book

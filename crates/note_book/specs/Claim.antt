@@ -20,7 +20,8 @@ use Rattle.device.specs.declared.Device.{Device}
 use Rattle.device.specs.Device.{started}
 use Rattle.events.specs.declared.Event.{Event}
 use Rattle.events.specs.Events.{taken}
-use Rattle.note_book.specs.Book.{Slot, empty, note, Book, ifNote, startBook, shareOf, isRhythm, isNote, isOf, isEnded, remaining, notesOn, countAt}
+use Rattle.note_book.specs.Book.{Slot, empty, note, Book, ifNote, startBook, shareOf, isRhythm}
+use Rattle.note_book.specs.Book.{isNote, isOf, isEnded, remaining, notesOn, countAt}
 use Rattle.note_book.specs.Book.{Heard, nothing, message, newTable, reset, report, eventHeard, splitterAfter, keep}
 
 -- ---- what is claimed at a note-on of channel c and key k with answer a
@@ -41,7 +42,8 @@ isLoss b c k a = ifNote a (λ x y g w. isStolen w || isNote (stolenNote b c k a)
 
 -- R10.9: every generator has a note, and none one that the new note ends
 abbrev pub IsFull : Book → ℕ → ℕ → Type 0
-IsFull b c k = (g : ℕ) → g < b .polyphony → (isNote (b .notes g) ≡ true) × (isEnded (isRhythm b c) c k (b .notes g) ≡ false)
+IsFull b c k =
+    (g : ℕ) → g < b .polyphony → (isNote (b .notes g) ≡ true) × (isEnded (isRhythm b c) c k (b .notes g) ≡ false)
 
 -- R10.7: answered note, with that channel and key
 abbrev pub isServed : ℕ → ℕ → Answer → Bool
@@ -93,7 +95,10 @@ pub record System : Type 1 where
 
 -- R10.2: the note that a generator is
 abbrev pub slotOf : Generator → Slot
-slotOf x = if isHeld x then note false (x .channel) (x .key) else if isSustained x then note true (x .channel) (x .key) else empty
+slotOf x =
+    if isHeld x then note false (x .channel) (x .key) else
+    if isSustained x then note true (x .channel) (x .key) else
+    empty
 
 module _ (S : System) where
   unfoldable pub after : S .State → List (S .Event) → S .State
@@ -121,7 +126,8 @@ module _ (S : System) where
 
   -- R10.6: channel c stays within its share in a run from s
   abbrev pub StaysWithin : ℕ → S .State → List (S .Event) → Type 0
-  StaysWithin c s run = IsWithin (shareOf (S .book s) c) (notesOn (S .book s .polyphony) c (S .book s .notes)) × Each (Keeps c) s run
+  StaysWithin c s run =
+      IsWithin (shareOf (S .book s) c) (notesOn (S .book s .polyphony) c (S .book s .notes)) × Each (Keeps c) s run
 
   pub record Demand3 (s : S .State) (l : List (S .Event)) : Type 0 where
     pub exact : Always s l

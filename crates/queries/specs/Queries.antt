@@ -20,7 +20,9 @@ unfoldable pub generatorQuery : Device → ℕ → GeneratorAnswer
 generatorQuery d g =
     if leb (d .instrument .polyphony) g
     then NoGenerator
-    else GeneratorIs (at (d .instrument .generators) g .state) (at (d .instrument .generators) g .channel) (at (d .instrument .generators) g .key)
+    else
+    GeneratorIs (at (d .instrument .generators) g .state) (at (d .instrument .generators) g .channel)
+    (at (d .instrument .generators) g .key)
 
 abbrev pub generatorNumber : GeneratorAnswer → Option ℕ
 generatorNumber (GeneratorIs s c k) = none

@@ -12,4 +12,5 @@ isOneOf (One k) j = eqb j k
 isOneOf Every j = true
 
 unfoldable pub selects : Selection → Generator → Bool
-selects w x = (w .held && isHeld x || w .sustained && isSustained x) && isOn (w .channel) x && isOneOf (w .keys) (x .key)
+selects w x =
+    (w .held && isHeld x || w .sustained && isSustained x) && isOn (w .channel) x && isOneOf (w .keys) (x .key)

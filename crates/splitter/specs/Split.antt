@@ -50,7 +50,10 @@ unfoldable pub completed : Parser → ℕ → Split
 completed p b =
     let one = oneDataByte (p .status) in
     if leb 0xF0 (p .status) then record { parser = quiet; completed = Nothing } else
-    record { parser = begun (p .status); completed = Message (p .status) (if one then b else getD (p .bytes) 0 0) (if one then 0 else b) }
+    record {
+      parser = begun (p .status);
+      completed = Message (p .status) (if one then b else getD (p .bytes) 0 0) (if one then 0 else b);
+    }
 
 -- a byte below 80; R4.10: stray where no status is in force; R4.13: not the last one completes nothing
 unfoldable pub dataByte : Parser → ℕ → Split
