@@ -14,7 +14,7 @@ use lib.Seq.{getD-set-same, getD-set-other}
 use Rattle.loops.specs.Cases.{if_then_else_, bit}
 use Rattle.loops.specs.Passes.{total, filterBy, count, padded}
 use Rattle.loops.proofs.Fill.{length-upTo}
-use Rattle.loops.proofs.Tests.{and-left}
+use Rattle.loops.proofs.Tests.{and-left, impossible}
 use Rattle.loops.proofs.Totals.{total-same, total-bits}
 use Rattle.loops.proofs.Search.{filter-append, filter-filter, filter-same, filter-length}
 use Rattle.loops.proofs.Occurs.{occurs, occurs-filter, occurs-snoc, length-total, total-hole}
@@ -144,7 +144,7 @@ unidle : (x : Generator) (b : Bool) → eqb (x .state) 0 ≡ b → (isHeld x || 
 unidle x true t e =
     let q : x .state ≡ 0 = eqb-true (x .state) 0 t in
     let z : _≡_ {A = Bool} false true = rw q at e in
-    absurd (let y : _≡_ {A = ℕ} 0 1 = cc in omega arith)
+    impossible (cc)
 unidle x false t e = refl
 
 left-holds : (a b : Bool) → a ≡ true → (a || b) ≡ true

@@ -12,6 +12,7 @@ use lib.Seq.{getD-set-same, getD-set-other}
 use Rattle.loops.specs.Cases.{if_then_else_}
 use Rattle.loops.specs.Passes.{upTo}
 use Rattle.loops.proofs.Fill.{at-upTo, length-upTo}
+use Rattle.loops.proofs.Tests.{impossible}
 use Rattle.generators.specs.declared.Generators.{Generators}
 use Rattle.generators.specs.Generators.{Generator, generator, at, isIdle, isBusy, assigned}
 use Rattle.releases.specs.Releases.{withStates}
@@ -39,7 +40,7 @@ sounding-place s z g h = go (ltb g 64) refl
     go true t = ltb-true g 64 t
     go false t =
         let q : _≡_ {A = Bool} true false = sym (ap isIdle (beyond s z g (ltb-false g 64 t))) ∙ h in
-        absurd (let y : _≡_ {A = ℕ} 0 1 = cc in omega arith)
+        impossible (cc)
 
 -- ---- the busy generators that pass go to state n
 
@@ -62,7 +63,7 @@ module _ (s : Generators) (z : Sized s) (t : Generator → Bool) (n : ℕ) (busy
       go true k b e = rw (at-upTo rule 0 64 g (ltb-true g 64 k), e) (in-place b e)
       go false k true e =
           let q : _≡_ {A = Bool} false true = sym (ap isBusy (beyond s z g (ltb-false g 64 k))) ∙ busy (at s g) e in
-          absurd (let y : _≡_ {A = ℕ} 0 1 = cc in omega arith)
+          impossible (cc)
       go false k false e =
           let l = length-upTo rule 64 in
           let m = z .states in

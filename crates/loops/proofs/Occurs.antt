@@ -13,6 +13,7 @@ use Rattle.loops.specs.Cases.{if_then_else_, bit}
 use Rattle.loops.specs.Passes.{total, filterBy, count}
 use Rattle.loops.proofs.Totals.{bit-le, total-zero, total-bits, total-add}
 use Rattle.loops.proofs.Search.{count-append}
+use Rattle.loops.proofs.Tests.{impossible}
 
 abbrev pub occurs : ℕ → List ℕ → ℕ
 occurs h l = count (λ x. eqb x h) l
@@ -30,8 +31,8 @@ occurs-filter p h (x ∷ l) = go (eqb x h) (p x) (p h) refl refl refl (occurs-fi
     go : (e a b : Bool) → eqb x h ≡ e → p x ≡ a → p h ≡ b → occurs h (filterBy p l) ≡ (if p h then occurs h l else 0)
         → occurs h (if a then x ∷ filterBy p l else filterBy p l) ≡ (if b then bit e + occurs h l else 0)
     go true true true ee ea eb ih = rw (ee, ih, eb)
-    go true true false ee ea eb ih = absurd (let z : _≡_ {A = Bool} true false = sym ea ∙ ap p (eqb-true x h ee) ∙ eb in let y : _≡_ {A = ℕ} 0 1 = cc in omega arith)
-    go true false true ee ea eb ih = absurd (let z : _≡_ {A = Bool} true false = sym eb ∙ ap p (sym (eqb-true x h ee)) ∙ ea in let y : _≡_ {A = ℕ} 0 1 = cc in omega arith)
+    go true true false ee ea eb ih = let z : _≡_ {A = Bool} true false = sym ea ∙ ap p (eqb-true x h ee) ∙ eb in impossible (cc)
+    go true false true ee ea eb ih = let z : _≡_ {A = Bool} true false = sym eb ∙ ap p (sym (eqb-true x h ee)) ∙ ea in impossible (cc)
     go true false false ee ea eb ih = ih ∙ rw eb
     go false true b ee ea eb ih = rw (ee, ih, eb) (none b)
       where

@@ -11,6 +11,7 @@ use borrow.Author.Tests.{ltb-false, eqb-true, eq-eqb}
 use lib.Dec.{eqb, ltb}
 use lib.ListN.{length}
 use Rattle.loops.specs.Cases.{if_then_else_}
+use Rattle.loops.proofs.Tests.{impossible}
 use Rattle.table.specs.declared.Entry.{Entry}
 use Rattle.table.specs.Laws.{Rising, Distinct, Channels, WellFormed}
 use Rattle.table.specs.Table.{entry, entriesOf, tableOf, listed}
@@ -49,13 +50,13 @@ passed before v e l h = go (ltb 16 (e .channel)) refl (listed (e .channel) befor
   where
     go : (a : Bool) → ltb 16 (e .channel) ≡ a → (b : Bool) → listed (e .channel) before ≡ b → (c : Bool) → ltb (e .value) v ≡ c
         → (if a then some 7 else if b then some 8 else if c then some 9 else faulty (before ++ (e ∷ [])) (e .value) l) ≡ none → Passed before v e l
-    go true p b q c r h = absurd (let z : _≡_ {A = ℕ} 0 1 = cc in omega arith)
-    go false p true q c r h = absurd (let z : _≡_ {A = ℕ} 0 1 = cc in omega arith)
-    go false p false q true r h = absurd (let z : _≡_ {A = ℕ} 0 1 = cc in omega arith)
+    go true p b q c r h = impossible (cc)
+    go false p true q c r h = impossible (cc)
+    go false p false q true r h = impossible (cc)
     go false p false q false r h = record { channel = ltb-false 16 (e .channel) p; fresh = q; rises = ltb-false (e .value) v r; others = h }
 
 absurd-tests : {A : Type 0} (b : Bool) → b ≡ true → b ≡ false → A
-absurd-tests b t f = absurd (let z : _≡_ {A = ℕ} 0 1 = cc in omega arith)
+absurd-tests b t f = impossible (cc)
 
 -- a channel that stands before is not among the pairs
 apart : (c : ℕ) (before : List Entry) (v : ℕ) (l : List Entry) → faulty before v l ≡ none → listed c before ≡ true → listed c l ≡ false
@@ -110,9 +111,9 @@ accepted l h = go (ltb 32 (length l)) refl (eqb (length l) 0 || eqb (length l % 
   where
     go : (a : Bool) → ltb 32 (length l) ≡ a → (b : Bool) → eqb (length l) 0 || eqb (length l % 2) 1 ≡ b → (o : Option ℕ) → faulty [] 0 (pairs l) ≡ o
         → (if a then refused 5 else if b then refused 6 else judgedBy (pairs l) o) .verdict ≡ Accepted → AcceptedTable l
-    go true p b q o r h = absurd (let z : _≡_ {A = ℕ} 0 1 = cc in omega arith)
-    go false p true q o r h = absurd (let z : _≡_ {A = ℕ} 0 1 = cc in omega arith)
-    go false p false q (some n) r h = absurd (let z : _≡_ {A = ℕ} 0 1 = cc in omega arith)
+    go true p b q o r h = impossible (cc)
+    go false p true q o r h = impossible (cc)
+    go false p false q (some n) r h = impossible (cc)
     go false p false q none r h =
         let w = well-formed l (ltb-false 32 (length l) p) r in
         let t : judged l .table ≡ tableOf (pairs l) = rw (p, q, r) in

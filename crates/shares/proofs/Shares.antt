@@ -10,6 +10,7 @@ use native.Mathlib.Nat.{sub-zero}
 use borrow.Author.Tests.{leb-true, leb-false, le-leb, eq-eqb}
 use lib.Dec.{leb, eqb}
 use Rattle.loops.specs.Cases.{if_then_else_}
+use Rattle.loops.proofs.Tests.{impossible}
 use Rattle.table.specs.declared.Entry.{Entry}
 use Rattle.table.specs.declared.Table.{Table}
 use Rattle.table.specs.Laws.{Rising, Distinct, Channels}
@@ -51,7 +52,7 @@ unlisted-share p c v (e ∷ l) h = go (leb (e .value) p) (eqb c (e .channel)) re
   where
     go : (b d : Bool) → eqb c (e .channel) ≡ d → d || listed c l ≡ false → (listed c l ≡ false → listed c (sharesFrom p (e .value) l) ≡ false)
         → listed c (if b then entry (e .channel) (e .value - v) ∷ sharesFrom p (e .value) l else sharesFrom p (e .value) l) ≡ false
-    go b true q h ih = absurd (let z : _≡_ {A = ℕ} 0 1 = cc in omega arith)
+    go b true q h ih = impossible (cc)
     go true false q h ih = rw q (ih h)
     go false false q h ih = ih h
 

@@ -4,10 +4,10 @@ use mathlib.Core.Path.{_≡_, refl, sym, _∙_}
 use mathlib.Core.Bool.{Bool, true, false, _&&_}
 use mathlib.Core.List.{List, _∷_}
 use Prim.Native.Nat.{ℕ, _+_, _-_, _≤_, _<_}
-use native.Mathlib.Omega.{arith}
 use lib.Dec.{leb, eqb}
 use lib.ListN.{length, take, drop, getD}
 use Rattle.loops.specs.Cases.{if_then_else_}
+use Rattle.loops.proofs.Tests.{impossible}
 use Rattle.table.specs.declared.Entry.{Entry}
 use Rattle.table.specs.Table.{entry}
 use Rattle.table.proofs.Walk.{rest-next, rest-end}
@@ -24,7 +24,7 @@ module _ (p c v : ℕ) (x : Entry) (l : List Entry) where
       go : (b : Bool) → b && eqb c (x .channel) ≡ true
           → lookup c (if b then entry (x .channel) (x .value - v) ∷ sharesFrom p (x .value) l else sharesFrom p (x .value) l) ≡ Units (x .value - v)
       go true t = rw t
-      go false t = absurd (let z : _≡_ {A = ℕ} 0 1 = cc in omega arith)
+      go false t = impossible (cc)
 
   share-past : leb (x .value) p && eqb c (x .channel) ≡ false → lookup c (sharesFrom p v (x ∷ l)) ≡ lookup c (sharesFrom p (x .value) l)
   unfolding lookup sharesFrom
