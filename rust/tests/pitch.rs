@@ -1,7 +1,7 @@
 //! Pitches over the library, held against R11.1 to R11.3 computed anew with integers that have a sign.
 use muntinorris::{pitch, Pitch, Refused};
 
-/// The position, by the paper: `div_euclid` is the floor for a positive divisor.
+/// The position, by R11.1: `div_euclid` is the floor for a positive divisor.
 fn position(key: i32, sensitivity: i32, bend: i32) -> i32 {
     16 * key + (16 * sensitivity * (bend - 8192)).div_euclid(8192)
 }

@@ -105,7 +105,7 @@ impl Claims {
             return Ok(());
         }
         Err(format!(
-            "ticket 14: {} thefts in {} bytes from a fresh device, which can make {most} at most",
+            "R13.2: {} thefts in {} bytes from a fresh device, which can make {most} at most",
             since.thefts, since.bytes
         ))
     }

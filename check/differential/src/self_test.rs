@@ -81,7 +81,7 @@ pub fn run(seed: u64) -> Vec<String> {
     }
     for slip in WRONG_BOUNDS {
         let name = format!("bound with {slip:?}");
-        complaints.extend(expect(&name, "ticket 14", wrong_book(slip, seed)));
+        complaints.extend(expect(&name, "R13.2", wrong_book(slip, seed)));
     }
     complaints.extend(pages_self_test::run(seed));
     complaints.extend(wrong_pitches(seed));

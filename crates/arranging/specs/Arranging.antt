@@ -119,7 +119,7 @@ pairBytes (e ∷ l) = (e .channel - 1) ∷ (e .value) ∷ pairBytes l
 unfoldable pub mipMessage : List Entry → List ℕ
 mipMessage l = 0xF0 ∷ 0x7F ∷ 0x7F ∷ 0x0B ∷ 0x01 ∷ (pairBytes l ++ (0xF7 ∷ []))
 
--- a line as it is told: one above 2 to the power 64, less 1, as that
+-- R14.9: a line as it is told: one above 2 to the power 64, less 1, as that
 abbrev pub told : ℕ → ℕ
 told n = atMost 18446744073709551615 n
 

@@ -84,7 +84,7 @@ abbrev pub joined : List (List ℕ) → List ℕ
 joined [] = []
 joined (p ∷ ps) = p ++ joined ps
 
--- before the first part: the order is looked at
+-- R18.5: before the first part: the order is looked at, and its number has fallen or not
 unfoldable pub begunBy : Order → Run
 begunBy o = run (song fresh (o .channels) (replicate 16 0) 0 (if o .whole then 0 else 16)) blank
 
@@ -95,6 +95,7 @@ begun order = begunBy (orderOf order)
 unfoldable pub endedBy : Song → ℕ → Written
 endedBy s n = if eqb n 0 then whole (s .order) (s .most) (s .lines) else refused 15 (counted (s .lines))
 
+-- R14.10, R18.5: the message of the parts so far
 unfoldable pub finished : Run → Written
 finished r =
     if eqb (r .song .number) 0

@@ -1,2 +1,2 @@
--- The choice of a generator.
+-- The generators that a note-on may take.
 pub mod Candidates

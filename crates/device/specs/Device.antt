@@ -47,6 +47,7 @@ heard i p Cut = replied (answerOf (splitting.numberOf Cut)) i
 heard i p (Message s a b) = played i (decode s a b)
 heard i p SysEx = exclusive i (body p)
 
+-- R1.11: a record is its parser and the rest
 abbrev pub outputOf : Parser → Reply → Output
 outputOf p r = record { answer = r .answer; device = record { parser = p; instrument = r .instrument } }
 

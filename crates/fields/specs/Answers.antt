@@ -7,7 +7,7 @@ use Rattle.loops.specs.Cases.{if_then_else_}
 use Rattle.fields.specs.declared.Line.{Line}
 use Rattle.fields.specs.Line.{newLine, after, afterAll, isEmpty}
 
--- `malformed` and the line's end: the answer of a line that is not the numbers that are asked for
+-- R17.3: `malformed` and the line's end: the answer of a line that is not the numbers that are asked for
 abbrev pub malformedLine : List ℕ
 malformedLine = 109 ∷ 97 ∷ 108 ∷ 102 ∷ 111 ∷ 114 ∷ 109 ∷ 101 ∷ 100 ∷ 10 ∷ []
 

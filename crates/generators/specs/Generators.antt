@@ -1,5 +1,4 @@
--- The generators, by their number g (R1.3 to R1.5). There are 64 places; a device of polyphony P uses the first P,
--- and the others stay idle.
+-- The generators, by their number g (R1.3 to R1.5).
 use Prim.Native.Nat.{ℕ}
 use mathlib.Core.Bool.{Bool, _&&_, _||_, not}
 use mathlib.Core.List.{[]}
@@ -75,6 +74,7 @@ assigned g c k s =
     }
     else s
 
--- R1.10: a fresh record: all are idle
+-- R1.10, R1.13: a fresh record: all 64 places are idle; a device of polyphony P uses the first P, and the others stay
+-- so
 unfoldable pub silent : Generators
 silent = record { state = replicate 64 idle; channel = replicate 64 0; key = replicate 64 0; ages = agesOf [] }

@@ -44,7 +44,7 @@ some-thefts = (refl, refl, refl, refl)
 
 -- ---- from the claims alone
 
--- the ticket's own words: a device of P generators, P from 1 to 64, and any own ID that a start accepts
+-- R13.1 in its own words: a device of P generators, P from 1 to 64, and any own ID that a start accepts
 module _ (p id : ℕ) (lo : 1 ≤ p) (hi : p ≤ 64) (h : id ≤ 126) where
   has-p : polyphonyOf (newDevice p id) ≡ p
   unfolding fresh

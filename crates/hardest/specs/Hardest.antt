@@ -32,7 +32,7 @@ NoWorse = (p id : ℕ) (l : List ℕ) → thefts (newDevice p id) l ≤ mostThef
 abbrev pub Reached : Type 0
 Reached = (p id n : ℕ) → thefts (newDevice p id) (song n) ≡ mostThefts (polyphonyOf (newDevice p id)) n
 
--- what the call answers where it isn't refused
+-- R13.4: what the call answers where it isn't refused
 abbrev pub AnswersMost : Type 0
 AnswersMost =
     (p n : ℕ) (buffer : List ℕ) → isWrongP p ≡ false → isTooLong n (length buffer) ≡ false

@@ -114,7 +114,7 @@ behindFirst (b ∷ bs) = if eqb b 10 then bs else behindFirst bs
 unfoldable pub arranged : List ℕ → Written
 arranged input = message (orderIn (orderBytes newOrder (firstLine input))) (behindFirst input)
 
--- and what standard output and standard error get for it
+-- R17.4: and what standard output and standard error get for it
 abbrev pub standardOutput : List ℕ → List ℕ
 standardOutput input = messageOf (arranged input)
 

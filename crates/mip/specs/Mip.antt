@@ -32,7 +32,7 @@ faulty before v (e ∷ l) =
 abbrev pub refused : ℕ → Judged
 refused n = record { verdict = Refused n; table = tableOf [] }
 
--- R2.7: the table of an accepted message
+-- R3.8, R2.7: accepted without a fault, it is the table
 abbrev pub judgedBy : List Entry → Option ℕ → Judged
 judgedBy l none = record { verdict = Accepted; table = tableOf l }
 judgedBy l (some n) = refused n

@@ -1,5 +1,5 @@
 -- Demand 3 bites. First its words, for any book and answer: what keeps within a share, what ends a run, what is
--- served, robbed and lost is no less than the paper says; a claim emptied behind its name would not give these facts.
+-- served, robbed and lost is no less than the rules say; a claim emptied behind its name would not give these facts.
 -- Then the end of any list. Short lists in which `demand-3` alone, not the device, says what becomes of a note stand
 -- in crate `witnesses`, so that they are computed once and not for each wrong answer.
 -- Assumes nothing.

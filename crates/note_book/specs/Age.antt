@@ -19,7 +19,7 @@ module _ (S : System) where
   byAnswers l s [] = l
   byAnswers l s (e ∷ es) = byAnswers (named l (S .answer s e)) (S .next s e) es
 
-  -- of two sounding generators the older in the record is the one whose last note answer came earlier in the list
+  -- R10.10: of two sounding generators the older in the record is the one whose last note answer stands earlier
   abbrev pub AgeByAnswers : S .State → List (S .Event) → Type 0
   AgeByAnswers s l =
       oldestFirst (S .instrument (after S s l) .generators .ages)

@@ -84,6 +84,7 @@ startBook p id a = if isDone a then freshBook p id else freshBook 1 0
 abbrev pub shareOf : Book → ℕ → Share
 shareOf b c = lookup c (sharesFrom (b .polyphony) 0 (b .table))
 
+-- R5.12, R6.3: the rhythm channel, and a pedal that is down
 abbrev pub isRhythm : Book → ℕ → Bool
 isRhythm b c = eqb c 10
 

@@ -1,5 +1,4 @@
--- The one claim about every list of bytes and reports, which device and book take side by side (section 10 of
--- docs/RULES.md).
+-- The one claim about every list of bytes and reports, which device and book take side by side: R10.1 to R10.9.
 use Prim.Native.Nat.{ℕ, _≤_, _<_}
 use mathlib.Core.Path.{_≡_}
 use mathlib.Core.Bool.{Bool, true, false, not, _&&_, _||_}
@@ -129,6 +128,7 @@ module _ (S : System) where
   StaysWithin c s run =
       IsWithin (shareOf (S .book s) c) (notesOn (S .book s .polyphony) c (S .book s .notes)) × Each (Keeps c) s run
 
+  -- R10.2, R10.9, and R10.7 with R10.8 in every run of the list
   pub record Demand3 (s : S .State) (l : List (S .Event)) : Type 0 where
     pub exact : Always s l
     pub fair : Each Fair s l

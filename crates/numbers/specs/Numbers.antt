@@ -59,11 +59,11 @@ abbrev pub shareNumbers : ShareAnswer → ShareNumbers
 shareNumbers (ShareIs n) = record { number = 0; share = n }
 shareNumbers NotAChannel = record { number = orZero (shareNumber NotAChannel); share = 0 }
 
--- a pitch or, beside number 21, octave 0 and 65536
+-- R18.4: a pitch or, beside number 21, octave 0 and 65536
 abbrev pub pitchNumbers : PitchAnswer → PitchNumbers
 pitchNumbers a = record { entry = pitchIn a .entry; octave = pitchIn a .octave; number = orZero (pitchNumber a) }
 
--- the gains of a call or, beside number 24, 0 and 0: what `gains.Answered` says of the answer, said of the plain
+-- R18.4: the gains of a call or, beside number 24, 0 and 0: what `gains.Answered` says of the answer, said of the plain
 -- numbers
 abbrev pub GainsTold : ℕ → ℕ → ℕ → GainNumbers → Type 0
 GainsTold e v p r =
@@ -72,7 +72,7 @@ GainsTold e v p r =
 abbrev pub GainsToldOf : Channel → GainNumbers → Type 0
 GainsToldOf c r = GainsTold (c .expression) (c .volume) (c .pan) r
 
--- the thefts of a song or, beside number 1 or 25, 0
+-- R18.4: the thefts of a song or, beside number 1 or 25, 0
 abbrev pub songNumbers : SongAnswer → SongNumbers
 songNumbers a = record { thefts = theftsIn a; number = orZero (songNumber a) }
 

@@ -18,7 +18,7 @@ each p (suc n) = each p n && p n
 abbrev pub times : List ℕ → ℕ → ℕ
 times order c = count (λ x. eqb x c) order
 
--- sixteen numbers, and each channel stands there once
+-- R14.3: sixteen numbers, and each channel stands there once
 unfoldable pub isOrder : List ℕ → Bool
 isOrder order = eqb (length order) 16 && each (λ i. eqb (times order (i + 1)) 1) 16
 

@@ -15,7 +15,7 @@ use Rattle.instrument.specs.Instrument.{channelOf, withChannel, withGenerators,
 unfoldable pub playNoteOff : Instrument → ℕ → ℕ → Instrument
 playNoteOff i c k = if isRhythm i c then i else withGenerators i (changed (NoteOff (pedalDown i c) c k) (i .generators))
 
--- what becomes of the notes by a controller that lifts the pedal, silences or ends them
+-- R6.7, R6.10, R6.11, R6.12: what becomes of the notes by a controller that lifts the pedal, silences or ends them
 unfoldable pub notesAfter : Bool → ℕ → ℕ → ℕ → Generators → Generators
 notesAfter pedal c n v s =
     if liftsPedal n v then changed (PedalUp c) s else
@@ -23,7 +23,8 @@ notesAfter pedal c n v s =
     if endsAll n v then changed (AllNotesOff pedal c) s else
     s
 
--- a controller: the channel's numbers and its notes; R6.12: on a rhythm channel 123 releases, whatever the pedal
+-- R6.14: a controller, of any channel: its numbers and its notes; R6.12: on a rhythm channel 123 releases, whatever the
+-- pedal
 unfoldable pub playControl : Instrument → ℕ → ℕ → ℕ → Instrument
 playControl i c n v =
     withGenerators (withChannel i c (controlled (channelOf i c) n v))

@@ -50,6 +50,7 @@ AnswerPut (Refused n) d old next new = Put old 0 (numberLine n) next new
 unfoldable pub answerText : Lister → List ℕ
 answerText l = answerBy (l .awaits) (l .device)
 
--- what standard output gets for an input; that it is this in whatever reads the input comes is in proofs/Sentences.antt
+-- R17.5: what standard output gets for an input; that it is this in whatever reads the input comes is in
+-- proofs/Sentences.antt
 unfoldable pub paged : List ℕ → List ℕ
 paged input = answerText (ended (afterAll newLister input))

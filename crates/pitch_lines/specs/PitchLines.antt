@@ -49,6 +49,6 @@ answersTo c bs = answersBy lineAnswer c bs
 abbrev pub endAnswer : Line → List ℕ
 endAnswer c = endAnswerBy lineAnswer c
 
--- what an input is answered
+-- R17.1: what an input is answered
 abbrev pub answers : List ℕ → List ℕ
 answers input = allAnswersBy lineAnswer input

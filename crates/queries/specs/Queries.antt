@@ -15,7 +15,7 @@ use Rattle.queries.specs.declared.MaskAnswer.the-variants.{IsMasked, IsU
 use Rattle.queries.specs.declared.ShareAnswer.{ShareAnswer}
 use Rattle.queries.specs.declared.ShareAnswer.the-variants.{ShareIs, NotAChannel}
 
--- R7.4, R8.12: a generator's state, channel and key
+-- R7.3, R7.4, R8.12: a generator's state, channel and key
 unfoldable pub generatorQuery : Device → ℕ → GeneratorAnswer
 generatorQuery d g =
     if leb (d .instrument .polyphony) g

@@ -39,6 +39,6 @@ unfoldable pub after : Device → List Event → Device
 after d [] = d
 after d (e ∷ l) = after (taken d e .device) l
 
--- the claim: for every start, a refused one too, and every list
+-- R12.11: the claim, for every start, a refused one too, and every list
 abbrev pub AlwaysInRange : Type 0
 AlwaysInRange = (p id : ℕ) (l : List Event) → AllInRange (after (started p id .device) l)

@@ -1,3 +1,3 @@
--- Changes of state: keys, pedals and masks.
+-- Changes of state: keys and pedals.
 pub mod Releases
 pub mod Selection

@@ -10,8 +10,8 @@ use Rattle.generators.specs.Generators.{Generator, at, sustained, releasing, is
 use Rattle.releases.specs.declared.Change.{Change}
 use Rattle.releases.specs.declared.Change.the-variants.{ReleaseNote, ReleaseChannel, NoteOff, AllNotesOff, PedalUp}
 
--- which generators a change means: R5.2, a new note of their key; R2.8, a mask over their channel; R6.2, their
--- note-off; R6.12, all note-offs of their channel; R6.7, the pedal comes up
+-- which generators a change means: R5.2, a new note of their key; all of a channel, for which no rule asks yet; R6.2,
+-- their note-off; R6.12, all note-offs of their channel; R6.7, the pedal comes up
 unfoldable pub changes : Change → Generator → Bool
 changes (ReleaseNote c k) x = isBusyOn c x && eqb (x .key) k
 changes (ReleaseChannel c) x = isBusyOn c x

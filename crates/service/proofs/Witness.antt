@@ -1,4 +1,4 @@
--- The definitions give what the ticket says, field by field, of a table that has all kinds of channels among 24
+-- The definitions give what the rules say, field by field, of a table that has all kinds of channels among 24
 -- generators: 1, 10, 3 and 16 in this order, with values 2, 12, 12 and 100, of which the last is above P. And what the
 -- buffer keeps.
 -- Assumes nothing.

@@ -33,7 +33,7 @@ use Rattle.note_book.specs.Claim.{after, Live, begin}
 abbrev pub bookPage : Book → List ℕ
 bookPage b = pageOf (b .table) (b .polyphony) (λ c. notesOn (b .polyphony) c (b .notes))
 
--- for every start, a refused one too, and every list of bytes and reports: the page of the device is that of the book
+-- R15.9: for every start, a refused one too, and every list of bytes and reports the page of the device is the book's
 abbrev pub ShowsTheBook : Type 0
 ShowsTheBook =
     (p id : ℕ) (l : List Event)
@@ -86,6 +86,7 @@ pub record Agrees (d : Device) (c : ℕ) : Type 0 where
   pub mark : field 14 1 c d ≡ markTold (maskQuery d c)
   pub notes : field 16 2 c d ≡ inTwo (busyTold d c)
 
+-- R15.10: of every such device
 abbrev pub AgreesWithQueries : Type 0
 AgreesWithQueries = (p id : ℕ) (l : List Event) (c : ℕ) → 1 ≤ c → c ≤ 16 → Agrees (after Live (begin p id) l .device) c
 

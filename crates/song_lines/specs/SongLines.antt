@@ -67,7 +67,7 @@ pub record SongPut (p n : ℕ) (old : List ℕ) (a : SongAnswer) (used : ℕ) (n
   pub put : 2 ≤ length old → take used new ≡ songTo (drop 2 old) (Song p n)
   pub small : length old ≤ 1 → (a ≡ TooLong) × (used ≡ 0)
 
--- what an input gets (crate `fields`, specs/Answers)
+-- R17.2: what an input gets (crate `fields`, specs/Answers)
 abbrev pub answers : List ℕ → List ℕ → List ℕ
 answers room input = allAnswersBy (λ c. answerTo room (lineRequest c)) input
 

@@ -1,7 +1,6 @@
--- Rules R4.1 to R4.14: how a stream of bytes is split into messages. Pure MIDI 1.0: nothing here knows a polyphony,
--- an own ID or a table.
--- R4.14: a parser holds the status byte in force (0: none), how many data bytes have come since, and these bytes; of
--- a SysEx the first 37, counted to 37, since no message that counts is longer than 36.
+-- Section 4 of docs/RULES.md: how a stream of bytes is split into messages. Pure MIDI 1.0: nothing here knows a
+-- polyphony, an own ID or a table. R4.14: a parser holds the status byte in force (0: none), how many data bytes have
+-- come since, and these bytes; of a SysEx the first 37, counted to 37, since no message that counts is longer than 36.
 use Prim.Native.Nat.{ℕ, _+_}
 use mathlib.Core.Bool.{Bool, _&&_, _||_, not}
 use mathlib.Core.List.{List}
@@ -22,7 +21,7 @@ begun b = record { status = b; count = 0; bytes = replicate 37 0 }
 abbrev pub quiet : Parser
 quiet = begun 0
 
--- one data byte more
+-- R4.14: one data byte more, the 38th and later ones not kept
 unfoldable pub stored : Parser → ℕ → Parser
 stored p b =
     if ltb (p .count) 37
