@@ -104,9 +104,8 @@ extern "C" {
                                           * that line, which is counted; 38 zeros for the message, as with 16 and 17 */
 #define MUNTINORRIS_BAD_ORDER 16         /* log: the order is not all sixteen channels once; the log is not looked at. A
                                           * fresh device of polyphony 64 and own ID 0, and zeros */
-#define MUNTINORRIS_LOG_SPOILT 17        /* log: at a line a MIP message for device 7F or 0 ends, accepted or not, a
-                                          * note is stolen or number 11 falls. As 15: the device has not played the
-                                          * line */
+#define MUNTINORRIS_LOG_SPOILT 17        /* log: a line ends a MIP message for device 7F or 0, or a note is lost at
+                                          * it (a theft, or number 11). As 15: the device has not played the line */
 #define MUNTINORRIS_PAGE_TOO_SHORT 18    /* page: the buffer has fewer than 323 bytes. It is untouched */
 #define MUNTINORRIS_BAD_PITCH 21         /* pitch: key above 127, sensitivity above 24 or bend above 16383. Entry 65536
                                           * and octave 0 */
@@ -191,7 +190,7 @@ struct muntinorris_mip_answer {
 
 /* ---- the record ---- */
 
-/* The state of a generator. Held and sustained are busy; all but idle are sounding. */
+/* The state of a generator. HELD and SUSTAINED are busy, IDLE alone makes no sound. */
 #define MUNTINORRIS_STATE_IDLE 0
 #define MUNTINORRIS_STATE_HELD 1      /* its key is down */
 #define MUNTINORRIS_STATE_SUSTAINED 2 /* its key is up and the pedal down */

@@ -123,9 +123,8 @@ pub struct MipMessage {
 #[derive(Clone, Copy, Debug, PartialEq, Eq)]
 pub struct Refused(pub u8);
 
-/// A log that gives no message. The number: 15, a line of another form; 16, an order that is not all sixteen channels
-/// once; 17, a line at which a MIP message for device 7F or 0 ends, a note is stolen or number 11 falls. The line that
-/// it fell at, from 1; 0 with 16.
+/// A log that gives no message. The number: 15, a line is of another form; 16, the order has not every channel once; 17,
+/// a line ends a MIP message for device 7F or 0, or a note is lost at it. The line that it fell at, from 1; 0 with 16.
 #[derive(Clone, Copy, Debug, PartialEq, Eq)]
 pub struct RefusedLog {
     pub number: u8,
@@ -260,8 +259,7 @@ impl Device {
     /// The service page, the state of the device as text, in the first [`PAGE_BYTES`] of a buffer; its other bytes
     /// stay. Number 18 for a shorter one, which is then untouched. Under a head stand channels 1 to 16, a line each:
     /// channel, place in the order of the MIP table (from 1), value, share, `M` if masked else `-`, and busy
-    /// generators, held or sustained. Place and value of a channel that is not listed, and the share of a masked one,
-    /// are filled with `-`.
+    /// generators, held or sustained. What a channel has not, because it is not listed or masked, is shown by `-`.
     ///
     /// ```
     /// use muntinorris::{Device, PAGE_BYTES};

@@ -23,8 +23,7 @@ use splitter::Completed;
 use splitter::Parser;
 use sysex::Kind;
 
-// The message, with number 0; or 38 zero bytes, with its number: 15, a log line of another form; 16, an order that is
-// not all sixteen channels once; 17, a MIP message for device 7F or 0, a stolen note or number 11 in the log.
+// The message, with number 0; or 38 zeros beside R8.15, R8.16 or R8.17.
 #[repr(C)]
 pub struct Written {
     // The last line that was looked at, from 1: where the number fell, or how many there are; 0 with 16.

@@ -1,4 +1,4 @@
-// The driver's side (R1.11): it lends its one device record and finds it updated after the call. A MIDI byte, as the
+// The driver's side (R1.11): the record is lent, and is up to date when the call returns. A MIDI byte, as the
 // call by value takes it, for every value of the record. Most bytes complete nothing and touch the parser alone, so
 // the rest of the record is not copied for them. The other event, a report, is in crate `driver_reports`. Assumes
 // nothing.

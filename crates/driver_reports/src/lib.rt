@@ -1,5 +1,5 @@
-// The driver's side of a report (R1.11, R7.1): the driver lends its one device record and finds it updated after the
-// call, as the call by value updates it, for every value of the record. Assumes nothing.
+// The driver's side of a report (R1.11, R7.1): the record is lent, and is up to date when the call returns, as the call
+// by value updates it, for every value of the record. Assumes nothing.
 ghost use mathlib.Core.Path.{_≡_};
 ghost use Rattle.events.specs.Events.{taken};
 ghost use Rattle.events.specs.declared.Event.the-variants.{Report};

@@ -165,7 +165,7 @@ pub fn all(l: Lister, page: &mut [u8], bytes: &[u8]) -> Listed
     }
 }
 
-// The end of the input: a missing P or ID counts as 0.
+// The end of the input (R16.1).
 pub fn end(l: Lister, page: &mut [u8]) -> usize
     ensures { λ r. ⌜ Put (now (page .entry)) 0 (endLine l) r (now (page .exit)) ⌝ }
 {

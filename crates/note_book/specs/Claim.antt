@@ -104,7 +104,7 @@ module _ (S : System) where
   after s [] = s
   after s (e ∷ l) = after (S .next s e) l
 
-  -- R10.2: the busy generators are exactly those with a note in the book; R10.3: from P on all are idle
+  -- R10.2: each generator is in the book as it is in the record; R10.3: from P on all are idle
   pub record IsExact (s : S .State) : Type 0 where
     pub notes : (g : ℕ) → S .book s .notes g ≡ slotOf (at (S .instrument s .generators) g)
     pub beyond : (g : ℕ) → S .book s .polyphony ≤ g → isIdle (at (S .instrument s .generators) g) ≡ true
@@ -160,6 +160,6 @@ Live = record {
   hears = λ s e. eventHeard (s .book) (s .splitter) e (taken (s .device) e .answer);
 }
 
--- R10.1: the list begins with the record of any start, a refused one too
+-- R10.1: before the list, whatever was asked for at the start
 abbrev pub begin : ℕ → ℕ → Both
 begin p id = record { device = started p id .device; splitter = quiet; book = startBook p id (started p id .answer) }

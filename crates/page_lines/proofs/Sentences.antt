@@ -1,5 +1,5 @@
 -- What the program `page` writes for an input, sentence by sentence: however the input is cut into reads it is the
--- same; a missing P or ID counts as 0; a refused start writes its number on a line, whatever comes behind it; a good
+-- same; a P or ID that does not come is 0; a refused start writes its number on a line, whatever comes behind it; a good
 -- one the page of the device after the MIDI bytes.
 -- Assumes nothing.
 use Prim.Native.Nat.{ℕ, _≤_, _<_}

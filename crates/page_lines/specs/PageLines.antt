@@ -21,7 +21,7 @@ abbrev pub partsTaken : Lister → List (List ℕ) → Lister
 partsTaken l [] = l
 partsTaken l (p ∷ ps) = partsTaken (afterAll l p) ps
 
--- the end of the input: a missing P or ID counts as 0, as for the listing program
+-- R16.1: the end of the input, as for the listing program
 unfoldable pub ended : Lister → Lister
 ended l = afterAll l (missing (l .awaits))
 

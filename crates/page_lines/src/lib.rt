@@ -24,7 +24,7 @@ pub fn all(l: Lister, bytes: &[u8]) -> Lister
     s.lister
 }
 
-// The end of the input: a missing P or ID counts as 0.
+// The end of the input (R16.1).
 pub fn end(l: Lister) -> Lister
     ensures { λ r. ⌜ r ≡ ended l ⌝ }
 {

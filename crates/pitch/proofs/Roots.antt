@@ -121,8 +121,7 @@ entry-root i n r =
 pub entry-at : (i : ℕ) → i < 192 → entry i ≡ getD roots i 0
 entry-at i h = entry-root i (getD roots i 0) (root-at i h)
 
--- R11.2 of the whole table, in its words: an entry's 192nd power is at most 2 to the power 3072 + i, and no larger
--- number's is
+-- R11.2 of the whole table: an entry's power does not exceed its bound, and no larger number's does not
 pub largest-entry : (i : ℕ) → i < 192 → (entry i ^ 192 ≤ 2 ^ (3072 + i)) × ((n : ℕ) → n ^ 192 ≤ 2 ^ (3072 + i) → n ≤ entry i)
 largest-entry i h = rw (entry-at i h) (root-at i h .low, λ n l. go n (ltb (getD roots i 0) n) refl l)
   where
