@@ -5,7 +5,7 @@
 -- Assumes nothing.
 use mathlib.Core.Path.{_≡_, refl, sym, ap, _∙_, subst}
 use mathlib.Core.Logic.{_⊎_, inl, inr}
-use mathlib.Core.Bool.{Bool, true, false, not, cond}
+use mathlib.Core.Bool.{Bool, true, false, true≢false, not, cond}
 use Prim.Native.Nat.{ℕ, zero, suc, _+_, _-_, _*_, _/_, _%_, _^_, _≤_, _<_, compare, Ordering, Ordering·lt, Ordering·eq, Ordering·gt}
 use native.Mathlib.Nat.{le-trans, le-of-eq, lt-of-le-of-lt, mul-comm, mul-assoc, mul-left-comm, mul-mul-mul-comm, add-mul, zero-mul, mul-zero, suc-mul, mul-pos, mul-le-mul, mul-le-mul-left, mul-le-mul-right, le-of-mul-le-mul-right, mul-lt-mul-of-pos-right, mod-lt, div-add-mod', div-lt-iff-lt-mul}
 use native.Mathlib.Omega.{arith}
@@ -150,17 +150,14 @@ round-close a c pos h =
     }
 
 -- ---- an operation's result is its exact result, rounded, by any fractions that its operands equal
-not-both : true ≡ false → ⊥
-not-both p = subst (λ (b : Bool). T b) p tt
-
 mul-at : (x y : Float) (a c b d : ℕ) → 0 < c → 0 < d → HasValue x false a c → HasValue y false b d → mul binary32 x y ≡ round binary32 false (a * b) (c * d)
 unfolding mul
 mul-at nan y a c b d C D h k = absurd h
 mul-at (inf s) y a c b d C D h k = absurd h
 mul-at (fin s m e) nan a c b d C D h k = absurd k
 mul-at (fin s m e) (inf t) a c b d C D h k = absurd k
-mul-at (fin true m e) (fin t n f) a c b d C D h k = let z : true ≡ false = h .0 in absurd (not-both z)
-mul-at (fin false m e) (fin true n f) a c b d C D h k = let z : true ≡ false = k .0 in absurd (not-both z)
+mul-at (fin true m e) (fin t n f) a c b d C D h k = let z : true ≡ false = h .0 in absurd (true≢false z)
+mul-at (fin false m e) (fin true n f) a c b d C D h k = let z : true ≡ false = k .0 in absurd (true≢false z)
 mul-at (fin false m e) (fin false n f) a c b d C D h k =
     round-same binary32 false (m * up e * (n * up f)) (down e * down f) (a * b) (c * d) (mul-pos (down-pos e) (down-pos f)) (mul-pos C D)
     (mul-mul-mul-comm (m * up e) (n * up f) c d ∙ ap (λ (z : ℕ). z * (n * up f * d)) (h .1) ∙ ap (λ (z : ℕ). a * down e * z) (k .1) ∙ mul-mul-mul-comm a (down e) b (down f))
@@ -189,7 +186,7 @@ div-at : (x : Float) (n f m : ℕ) (e : ℤ) → HasValue x false n 1 → T (not
 unfolding div
 div-at nan n f m e h nz F k = absurd h
 div-at (inf s) n f m e h nz F k = absurd h
-div-at (fin true l d) n f m e h nz F k = let z : true ≡ false = h .0 in absurd (not-both z)
+div-at (fin true l d) n f m e h nz F k = let z : true ≡ false = h .0 in absurd (true≢false z)
 div-at (fin false l d) n f m e h nz F k = go (eqb m 0) nz
   where
     whole : l * up d * down e * f ≡ n * (m * up e * down d)

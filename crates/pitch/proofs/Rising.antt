@@ -4,7 +4,7 @@
 -- of the positions that calls give.
 -- Assumes nothing.
 use mathlib.Core.Path.{_≡_, refl, sym, ap, subst}
-use mathlib.Core.Bool.{Bool, true, false, cond, _||_}
+use mathlib.Core.Bool.{Bool, true, false, true≢false, cond, _||_}
 use Prim.Native.Nat.{ℕ, zero, suc, _+_, _-_, _*_, _/_, _%_, _^_, _≤_, _<_}
 use native.Mathlib.Nat.{mul-assoc, mul-comm, mul-left-comm, mul-le-mul, mul-lt-mul-of-pos-left, mul-lt-mul-of-pos-right, lt-of-mul-lt-mul-right, mul-pos, pow-suc}
 use native.Mathlib.Omega.{arith}
@@ -21,9 +21,6 @@ use Rattle.pitch.specs.declared.PitchAnswer.the-variants.{Sounds, OutOfR
 use Rattle.pitch.specs.Pitch.{position, entry, pitchAt, isOut, pitchOf, pitchIn, Lower}
 use Rattle.pitch.proofs.Roots.{entry-at, rises, from-first, to-twice}
 use Rattle.pitch.proofs.Floor.{octave-of, rest-of, position-of, raised-below}
-
-clash : true ≡ false → ⊥
-clash e = subst (λ (b : Bool). T b) e tt
 
 -- ---- the entries rise, from 65536 on, and stay below twice that
 next : (i : ℕ) → i < 191 → entry i < entry (suc i)
@@ -123,9 +120,9 @@ within k s b e = go (ltb 127 k) (ltb 24 s) (ltb 16383 b) refl refl refl e
   where
     go : (x y z : Bool) → ltb 127 k ≡ x → ltb 24 s ≡ y → ltb 16383 b ≡ z → (x || (y || z)) ≡ false → (k ≤ 127) × (s ≤ 24) × (b ≤ 16383)
     go false false false p q r t = (ltb-false 127 k p, ltb-false 24 s q, ltb-false 16383 b r)
-    go true y z p q r t = absurd (clash t)
-    go false true z p q r t = absurd (clash t)
-    go false false true p q r t = absurd (clash t)
+    go true y z p q r t = absurd (true≢false t)
+    go false true z p q r t = absurd (true≢false t)
+    go false false true p q r t = absurd (true≢false t)
 
 -- R11.4: of two calls that are not refused, the one of higher position gives the higher pitch
 pub higher-position-higher-pitch : (k s b k′ s′ b′ : ℕ) → isOut k s b ≡ false → isOut k′ s′ b′ ≡ false → position k s b <ℤ position k′ s′ b′

@@ -1,10 +1,11 @@
 -- `gains::weight_in` meets its contract: a row has its sixteen weights of the table, the last one fifteen (`Weights`).
 -- Assumes nothing.
 use mathlib.Core.Path.{_≡_, subst}
-use Prim.Native.Nat.{ℕ, suc, _+_, _*_, _≤_, _<_}
+use Prim.Native.Nat.{ℕ, _+_, _*_, _<_}
 use native.Mathlib.Omega.{arith}
 use lib.ListN.{getD}
 use borrow.Author.Needs.{needs}
+use Rattle.loops.proofs.Tests.{past}
 use Rattle.gains.specs.Gains.{weight}
 use Rattle.gains.proofs.Weights.{row, in-row}
 use Rattle.gains.proofs.weight_in.Statement.{statement}
@@ -15,9 +16,6 @@ told : (s r j : ℕ) → r ≡ s → j < 16 → 16 * r + j < 127 → getD (row s
 told s r j e l h = subst (λ (x : ℕ). getD (row x) j 0 ≡ weight (16 * r + j)) e (in-row r j l h)
 
 -- the last row is what the other seven leave
-past : (n s : ℕ) → n ≤ s → (s ≡ n → ⊥) → suc n ≤ s
-past n s l h = omega (arith, h)
-
 last : (s j : ℕ) → 16 * s + j < 127 → (s ≡ 0 → ⊥) → (s ≡ 1 → ⊥) → (s ≡ 2 → ⊥) → (s ≡ 3 → ⊥) → (s ≡ 4 → ⊥) → (s ≡ 5 → ⊥) → (s ≡ 6 → ⊥) → s ≡ 7
 last s j h a b c d e f g =
     let l = past 6 s (past 5 s (past 4 s (past 3 s (past 2 s (past 1 s (past 0 s (omega arith) a) b) c) d) e) f) g in

@@ -1,9 +1,10 @@
 -- `pitch::entry_at` meets its contract: a row has its eight entries of the table (`Roots`).
 -- Assumes nothing.
-use mathlib.Core.Path.{_≡_, sym}
-use Prim.Native.Nat.{ℕ, suc, _/_, _≤_, _<_}
+use mathlib.Core.Path.{sym}
+use Prim.Native.Nat.{_/_, _<_}
 use native.Mathlib.Omega.{arith}
 use borrow.Author.Needs.{needs}
+use Rattle.loops.proofs.Tests.{past}
 use Rattle.pitch.proofs.Roots.{entry-in}
 use Rattle.pitch.proofs.entry_at.Statement.{statement}
 use Rattle.pitch.proofs.entry_at.Tie as tie
@@ -78,9 +79,6 @@ returns-23 : tie.Need-returns-23
 returns-23 c = sym (entry-in (c .before .args .i) 22 (search needs) (c .match .keys23))
 
 -- the last row is what the others leave
-past : (n s : ℕ) → n ≤ s → (s ≡ n → ⊥) → suc n ≤ s
-past n s l h = omega (arith, h)
-
 returns-24 : tie.Need-returns-24
 returns-24 c =
     let s = c .before .args .i / 8 in
