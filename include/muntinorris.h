@@ -304,20 +304,20 @@ struct muntinorris_log {
 
 /*
  * Makes the record a fresh device: MUNTINORRIS_DONE, or number 1 or 2, after which it is a working device of polyphony
- * 1 and own ID 0.
+ * 1 and own ID 0. Rules R1.10, R8.1 and R8.2.
  */
 struct muntinorris_answer muntinorris_start(struct muntinorris_device *d, uint8_t polyphony, uint8_t id);
 
-/* A MIDI byte: MUNTINORRIS_NONE, _DONE, _NOTE, or number 3 to 11. */
+/* A MIDI byte: MUNTINORRIS_NONE, _DONE, _NOTE, or number 3 to 11. Sections 2 to 6 of the rules. */
 struct muntinorris_answer muntinorris_byte(struct muntinorris_device *d, uint8_t byte);
 
 /*
  * The tone generator reports that a generator's sound has ended: MUNTINORRIS_DONE, or number 12 or 13. Whatever note
- * the generator has at this call is ended, one that began after that sound too: see "Reports" above.
+ * the generator has at this call is ended, one that began after that sound too: see "Reports" above. Rules R7.1, R7.2.
  */
 struct muntinorris_answer muntinorris_report(struct muntinorris_device *d, uint8_t generator);
 
-/* Queries: they change nothing. Number 12 where there is no such generator. */
+/* Queries: they change nothing (R7.3 to R7.6). Number 12 where there is no such generator. */
 struct muntinorris_generator_answer muntinorris_generator(const struct muntinorris_device *d, uint8_t generator);
 
 /* Number 14 where the channel is not 1 to 16. */
@@ -337,7 +337,7 @@ struct muntinorris_share_answer muntinorris_share(const struct muntinorris_devic
  * value.
  *
  * The caller owns record and buffer and lends them for the call: the record is read and not changed, and the two must
- * not overlap. length is the buffer's, in bytes. 0, or number 18.
+ * not overlap. length is the buffer's, in bytes. 0, or number 18. Section 15 of the rules.
  */
 #define MUNTINORRIS_PAGE_BYTES 323
 uint8_t muntinorris_page(const struct muntinorris_device *d, uint8_t *page, size_t length);
@@ -346,7 +346,7 @@ uint8_t muntinorris_page(const struct muntinorris_device *d, uint8_t *page, size
  * The pitch of a key, 0 to 127, with the sensitivity of its channel in semitones, 0 to 24, and the bend, 0 to 16383
  * with centre 8192, which is 128 * bend_msb + bend_lsb of the channel in the record. It is lent nothing and needs no
  * start. Number 21 where one of the three is out of range. Of two pitches, the one of the higher position, in
- * sixteenths of a semitone, is the higher; a full bend up, 16383, is a sixteenth short of the sensitivity.
+ * sixteenths of a semitone, is the higher; a full bend up, 16383, is a sixteenth short of the sensitivity. Section 11.
  */
 struct muntinorris_pitch_answer muntinorris_pitch(uint8_t key, uint8_t sensitivity, uint16_t bend);
 
@@ -354,7 +354,7 @@ struct muntinorris_pitch_answer muntinorris_pitch(uint8_t key, uint8_t sensitivi
  * The gains of a channel with this expression, volume and pan, each 0 to 127: (expression / 127) squared, times (volume
  * / 127) squared, times the weight of the pan. Pan 0 and 1 are full left (at full level 1, to a millionth, and 0), 64
  * is the centre (0.70709 each), 127 full right; the squares of the two weights come to 1, to 5 parts in 100,000. It is
- * lent nothing and needs no start. Number 24 where one of the three is above 127.
+ * lent nothing and needs no start. Number 24 where one of the three is above 127. Section 12 of the rules.
  */
 struct muntinorris_gains_answer muntinorris_gains(uint8_t expression, uint8_t volume, uint8_t pan);
 
@@ -372,7 +372,7 @@ struct muntinorris_gains_answer muntinorris_channel_gains(const struct muntinorr
  * itself, and thefts counts the note-ons that were answered MUNTINORRIS_WAS_STOLEN. They come to (n - 1) / 2, rounded
  * down, less the polyphony, and to 0 up to n = 2 * polyphony + 2; without reports no n bytes make more, whatever they
  * are. It takes some 6 KB of stack (x86-64). The song is 90H, and then for j = 0, 1, 2, .. key j mod 128 and
- * velocity 64. Number 1, else 25.
+ * velocity 64. Number 1, else 25. Section 13 of the rules.
  */
 struct muntinorris_song_answer muntinorris_write_song(uint8_t polyphony, size_t n, uint8_t *song, size_t length);
 
@@ -381,7 +381,8 @@ struct muntinorris_song_answer muntinorris_write_song(uint8_t polyphony, size_t 
  * the log is a MIDI byte, `b,` and 0 to 255, or the report of a generator, `e,` and 0 to 63, in decimal without leading
  * zeros (`b,144`, `e,7`), and ends with 0AH. The log is played on a fresh device of polyphony 64 and own ID 0; what
  * that answers with a number below 11 or with 13 is passed over. The value of a channel is the largest number of
- * generators that were busy together, after some line, on it and the channels before it in the order.
+ * generators that were busy together, after some line, on it and the channels before it in the order. Section 14 of the
+ * rules.
  *
  * Begins a log with this order of n channels, and makes its record: 0, or number 16. The caller owns the record and
  * lends it to this call and to the two below; the order is lent for this call.
