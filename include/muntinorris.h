@@ -1,5 +1,5 @@
 /*
- * Muntinorris: the note allocator of a scalable polyphony module, for C and C++.
+ * Muntinorris: a note allocator for sound modules of scalable polyphony, for C and C++.
  *
  * Who owns what. The caller owns the records, struct muntinorris_device and struct muntinorris_log, and keeps them in
  * any memory: static, automatic or allocated. The library has no state of its own, allocates nothing, keeps no pointer
@@ -379,10 +379,9 @@ struct muntinorris_song_answer muntinorris_write_song(uint8_t polyphony, size_t 
 /*
  * The MIP message of a song, from its log and an order of all sixteen channels, 1 to 16, by falling priority. A line of
  * the log is a MIDI byte, `b,` and 0 to 255, or the report of a generator, `e,` and 0 to 63, in decimal without leading
- * zeros (`b,144`, `e,7`), and ends with 0AH. The log is played on a fresh device of polyphony 64 and own ID 0; what
- * that answers with a number below 11 or with 13 is passed over. The value of a channel is the largest number of
- * generators that were busy together, after some line, on it and the channels before it in the order. Section 14 of the
- * rules.
+ * zeros (`b,144`, `e,7`), and ends with 0AH. The log is played on a fresh device of polyphony 64 and own ID 0, whose
+ * numbers up to 10, and 13, do not stop it. The value of a channel is the largest number of generators that were busy
+ * together, after some line, on it and the channels before it in the order. Section 14 of the rules.
  *
  * Begins a log with this order of n channels, and makes its record: 0, or number 16. The caller owns the record and
  * lends it to this call and to the two below; the order is lent for this call.

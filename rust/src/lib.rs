@@ -1,4 +1,4 @@
-//! Safe Rust over Muntinorris, the note allocator of a scalable polyphony module. Each call is proved, in
+//! Safe Rust over Muntinorris, a note allocator for sound modules of scalable polyphony. Each call is proved, in
 //! the library, to give exactly the answer and the record of its definition in the repository's specs/, for every value
 //! of the record, gains to within a millionth; what is trusted here is that the structs below are those of
 //! include/muntinorris.h, which the repository's tests hold against the library.

@@ -45,7 +45,7 @@ unfoldable pub endsMip : Device → Event → Bool
 endsMip d (Byte b) = isSysEx (split (d .parser) b .completed) && isMip 0 (body (d .parser))
 endsMip d (Report g) = false
 
--- R14.6: a note is stolen, or number 11 falls
+-- R14.6: a note is lost, an older one by theft or the new one by number 11
 unfoldable pub losesNote : Answer → Bool
 losesNote answer.Nothing = false
 losesNote answer.Done = false

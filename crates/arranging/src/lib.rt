@@ -66,7 +66,7 @@ fn is_sysex(c: Completed) -> bool
     }
 }
 
-// Whether what the parser holds is a MIP message with device byte 7F or 0.
+// Whether the parser holds a MIP message that is for everybody, 7F, or for own ID 0.
 fn is_mip(p: Parser) -> bool
     ensures { λ r. ⌜ r ≡ isMip 0 (body p) ⌝ }
 {
@@ -108,7 +108,7 @@ fn is_theft(w: Was) -> bool
     }
 }
 
-// Whether a note is stolen or number 11 falls.
+// Whether a note is lost: an older one by theft, or the new one by number 11.
 fn loses_note(a: Answer) -> bool
     ensures { λ r. ⌜ r ≡ losesNote a ⌝ }
 {

@@ -6,7 +6,7 @@ ghost use Rattle.events.specs.declared.Event.the-variants.{Report};
 use device::Device;
 use playing::Answer;
 
-// The tone generator reports the end of generator g.
+// Generator g has rung out (R7.1).
 pub fn report(d: &mut Device, g: u8) -> Answer
     ensures { λ r. ⌜ (r ≡ taken (now (d .entry)) (Report g) .answer) × (now (d .exit) ≡ taken (now (d .entry)) (Report g) .device) ⌝ }
 {

@@ -8,11 +8,11 @@ use device::Output;
 pub enum Event {
     // A MIDI byte.
     Byte(u8),
-    // The tone generator reports the end of this generator.
+    // This generator has rung out.
     Report(u8),
 }
 
-// The tone generator reports the end of generator g.
+// Generator g has rung out (R7.1).
 pub fn report(d: Device, g: u8) -> Output
     ensures { λ r. ⌜ r ≡ reportTaken d g ⌝ }
 {

@@ -43,7 +43,7 @@ pub extern "C" fn muntinorris_byte(d: &mut Device, byte: u8) -> AnswerNumbers
     numbers::answer_numbers(driver::byte(d, byte))
 }
 
-// The tone generator reports the end of a generator.
+// A generator has rung out (R7.1).
 #[no_mangle]
 pub extern "C" fn muntinorris_report(d: &mut Device, generator: u8) -> AnswerNumbers
     ensures { λ r. ⌜ (r ≡ numbersOf (taken (now (d .entry)) (Report generator) .answer)) × (now (d .exit) ≡ taken (now (d .entry)) (Report generator) .device) ⌝ }

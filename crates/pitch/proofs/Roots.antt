@@ -30,7 +30,7 @@ roots =
     ∷ 123715 ∷ 124162 ∷ 124611 ∷ 125062 ∷ 125514 ∷ 125968 ∷ 126424 ∷ 126881 ∷ 127340 ∷ 127801 ∷ 128263 ∷ 128727 ∷ 129192 ∷ 129660 ∷ 130129 ∷ 130599
     ∷ []
 
--- n is the largest number whose 192nd power is at most 2 to the power 3072 + i
+-- n ^ 192 does not exceed 2 ^ (3072 + i), and (n + 1) ^ 192 does
 pub record Root (i n : ℕ) : Type 0 where
   pub low : n ^ 192 ≤ 2 ^ (3072 + i)
   pub high : 2 ^ (3072 + i) < (n + 1) ^ 192

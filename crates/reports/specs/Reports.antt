@@ -1,4 +1,4 @@
--- R7.1: the tone generator reports the end of a generator.
+-- R7.1: a generator has rung out, as the tone generator reports.
 use Prim.Native.Nat.{ℕ}
 use lib.Dec.{leb}
 use Rattle.loops.specs.Cases.{if_then_else_}
