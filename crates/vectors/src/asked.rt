@@ -156,7 +156,7 @@ fn put_asked(page: &mut [u8], at: usize, d: Device, command: u8, n: u8) -> usize
 }
 
 // The answer to a command that changes nothing, with so many numbers, of which this is the first.
-pub fn put_told(
+pub(crate) fn put_told(
     page: &mut [u8],
     at: usize,
     d: Device,

@@ -2,7 +2,7 @@
 // nothing.
 
 // What the next byte of a line may be.
-pub enum Awaits {
+pub(crate) enum Awaits {
     // The line's first byte: a command or the sign of a comment.
     Command,
     // The line's end or the blank before a number.
@@ -18,11 +18,11 @@ pub enum Awaits {
 }
 
 // A line, as far as it is read.
-pub struct Line {
-    pub awaits: Awaits,
-    pub command: u8,
-    pub count: usize,
-    pub numbers: [u8; 64],
+pub(crate) struct Line {
+    pub(crate) awaits: Awaits,
+    pub(crate) command: u8,
+    pub(crate) count: usize,
+    pub(crate) numbers: [u8; 64],
 }
 
 enum Digit {
@@ -48,7 +48,7 @@ fn digit_of(b: u8) -> Digit {
     Digit::NoDigit
 }
 
-pub fn empty_line() -> Line {
+pub(crate) fn empty_line() -> Line {
     Line {
         awaits: Awaits::Command,
         command: 0,
@@ -115,7 +115,7 @@ fn read_second_digit(l: Line, high: u8, b: u8) -> Line {
 }
 
 // A byte of a line, other than its end.
-pub fn read_byte(l: Line, b: u8) -> Line {
+pub(crate) fn read_byte(l: Line, b: u8) -> Line {
     let awaits = l.awaits;
     match awaits {
         Awaits::Command => read_command(l, b),
@@ -128,6 +128,6 @@ pub fn read_byte(l: Line, b: u8) -> Line {
 }
 
 // A number in three, highest first.
-pub fn in_three(high: u8, middle: u8, low: u8) -> usize {
+pub(crate) fn in_three(high: u8, middle: u8, low: u8) -> usize {
     (high as usize) * 65536 + (middle as usize) * 256 + (low as usize)
 }

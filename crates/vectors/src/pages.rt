@@ -48,7 +48,7 @@ fn put_service_in(page: &mut [u8], at: usize, d: Device, length: usize) -> usize
     put_service_lent(page, at, d, length, all)
 }
 
-pub fn put_service_asked(
+pub(crate) fn put_service_asked(
     page: &mut [u8],
     at: usize,
     d: Device,

@@ -40,7 +40,7 @@ fn put_lent(
     put_played(page, at, polyphony, n, &mut space[..length])
 }
 
-pub fn put_song_asked(page: &mut [u8], at: usize, numbers: [u8; 64]) -> usize {
+pub(crate) fn put_song_asked(page: &mut [u8], at: usize, numbers: [u8; 64]) -> usize {
     let n = in_three(numbers[1], numbers[2], numbers[3]);
     let length = in_three(numbers[4], numbers[5], numbers[6]);
     let mut space = [0xFFu8; 65538];

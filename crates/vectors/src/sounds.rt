@@ -9,7 +9,7 @@ use gains::GainsAnswer;
 use pitch::PitchAnswer;
 use text::put;
 
-pub fn put_pitch(page: &mut [u8], at: usize, a: PitchAnswer) -> usize {
+pub(crate) fn put_pitch(page: &mut [u8], at: usize, a: PitchAnswer) -> usize {
     match a {
         PitchAnswer::Sounds(p) => {
             let k = put(page, at, b"pitch");
@@ -23,7 +23,7 @@ fn pitch_of(key: u8, sensitivity: u8, msb: u8, lsb: u8) -> PitchAnswer {
     pitch::pitch_of(key, sensitivity, (msb as u16) * 128 + (lsb as u16))
 }
 
-pub fn pitch_asked(numbers: [u8; 64]) -> PitchAnswer {
+pub(crate) fn pitch_asked(numbers: [u8; 64]) -> PitchAnswer {
     pitch_of(numbers[0], numbers[1], numbers[2], numbers[3])
 }
 
@@ -80,10 +80,10 @@ fn put_levels(page: &mut [u8], at: usize, expression: u8, volume: u8, pan: u8) -
     put_gains(page, at, gains::gains_of(expression, volume, pan))
 }
 
-pub fn put_channel_levels(page: &mut [u8], at: usize, c: Channel) -> usize {
+pub(crate) fn put_channel_levels(page: &mut [u8], at: usize, c: Channel) -> usize {
     put_gains(page, at, gains::channel_gains(c))
 }
 
-pub fn put_levels_asked(page: &mut [u8], at: usize, numbers: [u8; 64]) -> usize {
+pub(crate) fn put_levels_asked(page: &mut [u8], at: usize, numbers: [u8; 64]) -> usize {
     put_levels(page, at, numbers[0], numbers[1], numbers[2])
 }
