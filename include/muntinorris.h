@@ -282,7 +282,8 @@ struct muntinorris_log_line {
  */
 struct muntinorris_logged {
     struct muntinorris_device device; /* polyphony 64, own ID 0, after the lines so far */
-    uint8_t order[16];                /* the channels, 1 to 16, by falling priority; zeros where the order was refused */
+    uint8_t order[16];                /* the channels, 1 to 16, by falling priority; zeros where the order was
+                                       * refused */
     uint8_t most[16];                 /* for each place of the order: the largest number of busy generators, after a
                                        * line so far, on the channels up to it */
     uint64_t lines;                   /* lines looked at so far, the one that a number fell at included. (Above 2^64 - 1
@@ -406,7 +407,8 @@ struct muntinorris_mip_answer muntinorris_log_end(const struct muntinorris_log *
  * All in one: the order of n channels, and the whole log of length bytes. Number 16 before 15 and 17; of these the
  * earlier line decides. It takes some 11 KB of stack (x86-64).
  */
-struct muntinorris_mip_answer muntinorris_mip_from_log(const uint8_t *order, size_t n, const uint8_t *log, size_t length);
+struct muntinorris_mip_answer muntinorris_mip_from_log(const uint8_t *order, size_t n, const uint8_t *log,
+                                                       size_t length);
 
 #ifdef __cplusplus
 }

@@ -1,4 +1,5 @@
-//! Links libmuntinorris.a: from the directory that MUNTINORRIS_LIB names, else from ../target/staticlib, where `rt staticlib muntinorris` puts it.
+//! Links libmuntinorris.a: from the directory that MUNTINORRIS_LIB names, else from ../target/staticlib, where
+//! `rt staticlib muntinorris` puts it.
 use std::env;
 use std::path::PathBuf;
 

@@ -1,5 +1,6 @@
-"""The must-fail edits. A file has one wrong answer, which it is named for, or several in one check of the crate, each behind a line `wrong: NAME`. Each of several stands in a
-function of its own, so that what the prover says of a function is said of one wrong answer alone; or, where definitions are changed, it has a line `fact: NAME`, of a fact that fails
+"""The must-fail edits. A file has one wrong answer, which it is named for, or several in one check of the crate, each
+behind a line `wrong: NAME`. Each of several stands in a function of its own, so that what the prover says of a function
+is said of one wrong answer alone; or, where definitions are changed, it has a line `fact: NAME`, of a fact that fails
 for it and for none of the others (tests/refused)."""
 import glob
 import os
@@ -23,7 +24,8 @@ def wrong_answers(text, label):
 
 
 def unread(text):
-    """Lines that nobody reads: an old or a new text has one line, and what follows it would be passed over in silence."""
+    """Lines that nobody reads: an old or a new text has one line, and what follows it would be passed over in
+    silence."""
     return [line for line in text.split("\n") if line and not re.match(r"#|(wrong|fact|file|old|new):( |$)", line)]
 
 
@@ -40,7 +42,8 @@ def files(root):
 
 
 def function_at(source, place):
-    """The path of the function whose body is at a place of a source, as proofs/ has it, or None for a place outside of all bodies."""
+    """The path of the function whose body is at a place of a source, as proofs/ has it, or None for a place outside of
+    all bodies."""
     owner, found, body, at = "", None, False, 0
     for line in source.split("\n"):
         head = re.match(r"impl (\w+) \{$", line)

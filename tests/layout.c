@@ -1,11 +1,13 @@
 /*
- * Holds the record of include/muntinorris.h against the library's own. The header says where a field lies; the library shows it by what it writes and reads:
+ * Holds the record of include/muntinorris.h against the library's own. The header says where a field lies; the library
+ * shows it by what it writes and reads:
  *   - a start writes every byte of the record and none beside it, whatever was there before;
  *   - after a call the memory is what it was but for the fields that the rules name, each at the header's place;
  *   - a value put at the header's place is what the next call reads;
  *   - each number, state and answer comes under the header's name for it.
  * So it does with the record of a log, whose padding is passed over.
- * tests/c_and_rust compiles and runs it. With the word `print` it writes each struct's size and each field's place and size instead, for the Rust crate to be held against.
+ * tests/c_and_rust compiles and runs it. With the word `print` it writes each struct's size and each field's place and
+ * size instead, for the Rust crate to be held against.
  */
 #include <stdarg.h>
 #include <stddef.h>
@@ -116,7 +118,8 @@ static void parser(void)
     device->parser.count = 1;
     device->parser.bytes[0] = 60;
     feed(100);
-    check(answer.what == MUNTINORRIS_NOTE && answer.channel == 5 && answer.key == 60, "parser.status, count and bytes are read");
+    check(answer.what == MUNTINORRIS_NOTE && answer.channel == 5 && answer.key == 60,
+          "parser.status, count and bytes are read");
 }
 
 /* Controller n of the channel in force, which changes this field and no other. */
@@ -171,7 +174,10 @@ static void table(void)
 {
     static const uint8_t message[] = {0xF0, 0x7F, 0x7F, 0x0B, 0x01, 3, 5, 1, 7, 8, 60, 15, 64};
     static const struct muntinorris_entry entries[] = {
-        {.channel = 4, .value = 5}, {.channel = 2, .value = 7}, {.channel = 9, .value = 60}, {.channel = 16, .value = 64}};
+        {.channel = 4, .value = 5},
+        {.channel = 2, .value = 7},
+        {.channel = 9, .value = 60},
+        {.channel = 16, .value = 64}};
     unsigned i;
 
     start(64, 5);
@@ -185,7 +191,9 @@ static void table(void)
     check(answer.what == MUNTINORRIS_DONE, "an accepted MIP message");
     /* reading */
     check(muntinorris_share(device, 9).share == 53 && muntinorris_mask(device, 9).masked == 0, "the table is read");
-    check(muntinorris_mask(device, 1).masked == 1 && muntinorris_share(device, 17).number == MUNTINORRIS_NO_SUCH_CHANNEL, "masks");
+    check(muntinorris_mask(device, 1).masked == 1 &&
+              muntinorris_share(device, 17).number == MUNTINORRIS_NO_SUCH_CHANNEL,
+          "masks");
     device->instrument.table.entries[2].value = 50;
     check(muntinorris_share(device, 9).share == 43, "table.entries[].value is read");
     device->instrument.table.entries[2].channel = 1;
@@ -213,7 +221,9 @@ static void generators(void)
         w->ages.generator[g] = g;
         muntinorris_byte(device, 127 - g);
         byte(64, "a generator's state, channel, key and age");
-        check(answer.what == MUNTINORRIS_NOTE && answer.generator == g && answer.channel == channel && answer.key == 127 - g && answer.was == MUNTINORRIS_WAS_IDLE, "the answer to a note-on");
+        check(answer.what == MUNTINORRIS_NOTE && answer.generator == g && answer.channel == channel &&
+                  answer.key == 127 - g && answer.was == MUNTINORRIS_WAS_IDLE,
+              "the answer to a note-on");
     }
     w->state[63] = w->channel[63] = w->key[63] = 0;
     w->ages.count = 63;
@@ -228,10 +238,13 @@ static void generators(void)
         device->instrument.generators.channel[g] = 100 + g;
         device->instrument.generators.key[g] = 50 + g;
         a = muntinorris_generator(device, g);
-        check(a.number == 0 && a.state == 200 - g && a.channel == 100 + g && a.key == 50 + g, "state, channel and key are read");
+        check(a.number == 0 && a.state == 200 - g && a.channel == 100 + g && a.key == 50 + g,
+              "state, channel and key are read");
     }
     device->instrument.polyphony = 20;
-    check(muntinorris_generator(device, 19).number == 0 && muntinorris_generator(device, 20).number == MUNTINORRIS_NO_SUCH_GENERATOR, "polyphony bounds the generators");
+    check(muntinorris_generator(device, 19).number == 0 &&
+              muntinorris_generator(device, 20).number == MUNTINORRIS_NO_SUCH_GENERATOR,
+          "polyphony bounds the generators");
 }
 
 /* Three releasing generators in an order of age of our own; an own ID of our own. */
@@ -251,7 +264,10 @@ static void ages_and_id(void)
     feed(60);
     feed(64);
     check(answer.generator == 2 && answer.was == MUNTINORRIS_WAS_RELEASE, "ages.generator is read");
-    check(device->instrument.generators.ages.generator[0] == 0 && device->instrument.generators.ages.generator[1] == 1 && device->instrument.generators.ages.generator[2] == 2, "ages.generator is written");
+    check(device->instrument.generators.ages.generator[0] == 0 &&
+              device->instrument.generators.ages.generator[1] == 1 &&
+              device->instrument.generators.ages.generator[2] == 2,
+          "ages.generator is written");
     for (i = 0; i < sizeof reset; i++)
         feed(reset[i]);
     check(answer.what == MUNTINORRIS_NONE, "a reset for another ID");
@@ -264,7 +280,9 @@ static void ages_and_id(void)
 /* What the calls answer under each name of the header. */
 static void numbered(unsigned number, unsigned channel, unsigned key, const char *what)
 {
-    check(answer.what == MUNTINORRIS_NUMBER && answer.number == number && answer.channel == channel && answer.key == key && answer.generator == 0 && answer.was == 0, what);
+    check(answer.what == MUNTINORRIS_NUMBER && answer.number == number && answer.channel == channel &&
+              answer.key == key && answer.generator == 0 && answer.was == 0,
+          what);
 }
 
 static void play(uint8_t polyphony, const uint8_t *bytes, size_t length)
@@ -289,7 +307,8 @@ static void numbers(void)
     numbered(MUNTINORRIS_STRAY_DATA, 0, 0, "number 3");
     PLAY(4, 0xF0, 0x7F, 0x90);
     numbered(MUNTINORRIS_SYSEX_CUT, 0, 0, "number 4");
-    PLAY(4, MIP, 0, 1, 1, 1, 2, 1, 3, 1, 4, 1, 5, 1, 6, 1, 7, 1, 8, 1, 9, 1, 10, 1, 11, 1, 12, 1, 13, 1, 14, 1, 15, 1, 0, 0xF7);
+    PLAY(4, MIP, 0, 1, 1, 1, 2, 1, 3, 1, 4, 1, 5, 1, 6, 1, 7, 1, 8, 1, 9, 1, 10, 1, 11, 1, 12, 1, 13, 1, 14, 1, 15, 1,
+         0, 0xF7);
     numbered(MUNTINORRIS_MIP_TOO_LONG, 0, 0, "number 5");
     PLAY(4, MIP, 0xF7);
     numbered(MUNTINORRIS_MIP_NO_PAIRS, 0, 0, "number 6");
@@ -306,13 +325,18 @@ static void numbers(void)
     answer = muntinorris_report(device, 1);
     numbered(MUNTINORRIS_NO_SUCH_GENERATOR, 0, 0, "number 12");
     answer = muntinorris_report(device, 0);
-    check(answer.what == MUNTINORRIS_DONE && muntinorris_generator(device, 0).state == MUNTINORRIS_STATE_IDLE, "a report, and the state idle");
+    check(answer.what == MUNTINORRIS_DONE && muntinorris_generator(device, 0).state == MUNTINORRIS_STATE_IDLE,
+          "a report, and the state idle");
     answer = muntinorris_report(device, 0);
     numbered(MUNTINORRIS_ALREADY_IDLE, 0, 0, "number 13");
-    check(muntinorris_mask(device, 0).number == MUNTINORRIS_NO_SUCH_CHANNEL && muntinorris_share(device, 0).number == MUNTINORRIS_NO_SUCH_CHANNEL, "number 14");
-    check(muntinorris_mask(device, 16).number == 0 && muntinorris_share(device, 16).number == 0, "no number for channel 16");
+    check(muntinorris_mask(device, 0).number == MUNTINORRIS_NO_SUCH_CHANNEL &&
+              muntinorris_share(device, 0).number == MUNTINORRIS_NO_SUCH_CHANNEL,
+          "number 14");
+    check(muntinorris_mask(device, 16).number == 0 && muntinorris_share(device, 16).number == 0,
+          "no number for channel 16");
     PLAY(1, 0x90, 60, 64, 0x99, 36, 64);
-    check(answer.what == MUNTINORRIS_NOTE && answer.number == 0 && answer.was == MUNTINORRIS_WAS_STOLEN, "a stolen generator");
+    check(answer.what == MUNTINORRIS_NOTE && answer.number == 0 && answer.was == MUNTINORRIS_WAS_STOLEN,
+          "a stolen generator");
     PLAY(1, 0x90, 60, 64, 60, 0);
     check(muntinorris_generator(device, 0).state == MUNTINORRIS_STATE_RELEASING, "the state releasing");
 }
@@ -328,8 +352,9 @@ static void pages(void)
 }
 
 /*
- * A pitch answer's fields, each with a value of its own. Then the pitch of a note, as a driver asks for it (README.md): sensitivity 12, bent down by a third of it and half a
- * sixteenth, of which the floor makes a whole one: position 960 - 65.
+ * A pitch answer's fields, each with a value of its own. Then the pitch of a note, as a driver asks for it (README.md):
+ * sensitivity 12, bent down by a third of it and half a sixteenth, of which the floor makes a whole one: position
+ * 960 - 65.
  */
 static void pitches(void)
 {
@@ -348,8 +373,9 @@ static void pitches(void)
 }
 
 /*
- * The fields of a gains answer, each with a value of its own: at full level, pan 43, the weights are 28378 and 16384 of 32768 (exact here, which is more than the contract
- * asks). Then the gains of a channel as a driver asks for them (README.md), after its volume, pan and expression were sent; and refused ones, of a copy of the channel.
+ * The fields of a gains answer, each with a value of its own: at full level, pan 43, the weights are 28378 and 16384 of
+ * 32768 (exact here, which is more than the contract asks). Then the gains of a channel as a driver asks for them
+ * (README.md), after its volume, pan and expression were sent; and refused ones, of a copy of the channel.
  */
 static void gains(void)
 {
@@ -363,7 +389,8 @@ static void gains(void)
     check(a.left == 0 && a.right == 0 && a.number == MUNTINORRIS_BAD_LEVEL, "number 24");
     PLAY(4, 0xB2, 7, 64, 10, 127, 11, 96);
     a = muntinorris_channel_gains(&device->instrument.channels[3 - 1]);
-    check(a.left == 0 && a.right > 0.145105f && a.right < 0.145108f && a.number == 0, "the gains of a channel by its record");
+    check(a.left == 0 && a.right > 0.145105f && a.right < 0.145108f && a.number == 0,
+          "the gains of a channel by its record");
     c = device->instrument.channels[3 - 1];
     c.pan = 128;
     a = muntinorris_channel_gains(&c);
@@ -380,8 +407,9 @@ static int is_kept(const uint8_t *song, unsigned from)
 }
 
 /*
- * The fields of a song's answer, each with a value of its own, with 300 thefts and more; the buffer before and behind the n-th byte. The song of 21 bytes is played anew on a device as a
- * driver would: 10 notes on 3 generators. Then both numbers, number 1 first, with the whole buffer untouched, and a song of no byte in no memory.
+ * The fields of a song's answer, each with a value of its own, with 300 thefts and more; the buffer before and behind
+ * the n-th byte. The song of 21 bytes is played anew on a device as a driver would: 10 notes on 3 generators. Then both
+ * numbers, number 1 first, with the whole buffer untouched, and a song of no byte in no memory.
  */
 static void songs(void)
 {
@@ -431,9 +459,12 @@ static int is_logged(unsigned char pattern)
     for (i = 0; i < MARGIN; i++)
         if (log_memory.bytes[i] != pattern || log_memory.bytes[MARGIN + sizeof(struct muntinorris_log) + i] != pattern)
             return 0;
-    return memcmp(&lent->song.device, &logged.song.device, sizeof lent->song.device) == 0 && memcmp(lent->song.order, logged.song.order, sizeof logged.song.order) == 0 &&
-           memcmp(lent->song.most, logged.song.most, sizeof logged.song.most) == 0 && lent->song.lines == logged.song.lines && lent->song.number == logged.song.number &&
-           lent->line.count == logged.line.count && memcmp(lent->line.bytes, logged.line.bytes, sizeof logged.line.bytes) == 0;
+    return memcmp(&lent->song.device, &logged.song.device, sizeof lent->song.device) == 0 &&
+           memcmp(lent->song.order, logged.song.order, sizeof logged.song.order) == 0 &&
+           memcmp(lent->song.most, logged.song.most, sizeof logged.song.most) == 0 &&
+           lent->song.lines == logged.song.lines && lent->song.number == logged.song.number &&
+           lent->line.count == logged.line.count &&
+           memcmp(lent->line.bytes, logged.line.bytes, sizeof logged.line.bytes) == 0;
 }
 
 static void line_is(const char *text)
@@ -481,7 +512,8 @@ static void log_begins(void)
     logged.song.number = MUNTINORRIS_BAD_ORDER;
     for (i = 0; i < sizeof patterns; i++) {
         fill_log(patterns[i]);
-        check(muntinorris_log_begin(lent, order, 15) == MUNTINORRIS_BAD_ORDER && is_logged(patterns[i]), "number 16 for fifteen channels");
+        check(muntinorris_log_begin(lent, order, 15) == MUNTINORRIS_BAD_ORDER && is_logged(patterns[i]),
+              "number 16 for fifteen channels");
     }
     line_is("x");
     part("b,1\nx", MUNTINORRIS_BAD_ORDER, "a part behind number 16");
@@ -513,7 +545,8 @@ static void log_parts(void)
     part("b,60\nb,64\n", 0, "most, where channel 16 is second");
     part("", 0, "a part of no byte");
     check(muntinorris_log_part(lent, NULL, 0) == 0 && is_logged(0xA5), "a part of no byte in no memory");
-    check(is_message(muntinorris_log_end(lent), 3) && is_logged(0xA5), "the message, and a record that it does not change");
+    check(is_message(muntinorris_log_end(lent), 3) && is_logged(0xA5),
+          "the message, and a record that it does not change");
     check(is_message(whole("b,159\nb,60\nb,64\n"), 3), "the message of a whole log");
     logged.song.lines = 4;
     muntinorris_report(&logged.song.device, 0);
@@ -539,9 +572,11 @@ static void log_parts(void)
     check(muntinorris_log_begin(lent, order, sizeof order) == 0, "a log begun again");
     part("b,240\nb,127\nb,0\nb,11\nb,1\nb,247\nb,0\n", MUNTINORRIS_LOG_SPOILT, "number 17");
     check(is_refused(muntinorris_log_end(lent), MUNTINORRIS_LOG_SPOILT, 6), "the end behind number 17");
-    check(is_refused(whole("b,240\nb,127\nb,127\nb,11\nb,1\nb,247\nb\n"), MUNTINORRIS_LOG_SPOILT, 6), "number 17 of a whole log");
+    check(is_refused(whole("b,240\nb,127\nb,127\nb,11\nb,1\nb,247\nb\n"), MUNTINORRIS_LOG_SPOILT, 6),
+          "number 17 of a whole log");
     check(is_refused(whole("b,0\nx\n"), MUNTINORRIS_LOG_OTHER_FORM, 2), "number 15 of a whole log");
-    check(is_refused(muntinorris_mip_from_log(NULL, 0, NULL, 0), MUNTINORRIS_BAD_ORDER, 0), "number 16 of a whole log, in no memory");
+    check(is_refused(muntinorris_mip_from_log(NULL, 0, NULL, 0), MUNTINORRIS_BAD_ORDER, 0),
+          "number 16 of a whole log, in no memory");
 }
 
 /* What is put at the header's places is what the calls read. */
@@ -567,15 +602,23 @@ static void log_is_read(void)
     lent->song.device.parser.status = 0x99;
     lent->line.count = 3;
     memcpy(lent->line.bytes, "b,6", 3);
-    check(muntinorris_log_part(lent, (const uint8_t *)"0\nb,64\n", 7) == 0 && lent->song.most[0] == 1 && lent->song.device.instrument.generators.key[0] == 60, "device and line.bytes are read");
+    check(muntinorris_log_part(lent, (const uint8_t *)"0\nb,64\n", 7) == 0 && lent->song.most[0] == 1 &&
+              lent->song.device.instrument.generators.key[0] == 60,
+          "device and line.bytes are read");
 }
 
-/* Of each struct its size, then of each field its place and size; the fields must fill it, so that none is left out here. */
+/*
+ * Of each struct its size, then of each field its place and size; the fields must fill it, so that none is left out
+ * here.
+ */
 static size_t unlisted;
-#define STRUCT(s) (check(unlisted == 0, "every field of the struct before " #s " is listed"), unlisted = sizeof(struct muntinorris_##s), line("%s %u\n", #s, (unsigned)unlisted))
+#define STRUCT(s) \
+    (check(unlisted == 0, "every field of the struct before " #s " is listed"), \
+     unlisted = sizeof(struct muntinorris_##s), line("%s %u\n", #s, (unsigned)unlisted))
 #define FIELD(s, f) \
     (unlisted -= sizeof(((struct muntinorris_##s *)0)->f), \
-     line("%s.%s %u %u\n", #s, #f, (unsigned)offsetof(struct muntinorris_##s, f), (unsigned)sizeof(((struct muntinorris_##s *)0)->f)))
+     line("%s.%s %u %u\n", #s, #f, (unsigned)offsetof(struct muntinorris_##s, f), \
+          (unsigned)sizeof(((struct muntinorris_##s *)0)->f)))
 
 static int printing;
 
@@ -593,23 +636,32 @@ static void layout(void)
 {
     STRUCT(device), FIELD(device, parser), FIELD(device, instrument);
     STRUCT(parser), FIELD(parser, status), FIELD(parser, count), FIELD(parser, bytes);
-    STRUCT(instrument), FIELD(instrument, polyphony), FIELD(instrument, id), FIELD(instrument, table), FIELD(instrument, channels), FIELD(instrument, generators);
+    STRUCT(instrument), FIELD(instrument, polyphony), FIELD(instrument, id), FIELD(instrument, table);
+    FIELD(instrument, channels), FIELD(instrument, generators);
     STRUCT(table), FIELD(table, count), FIELD(table, entries);
     STRUCT(entry), FIELD(entry, channel), FIELD(entry, value);
-    STRUCT(channel), FIELD(channel, program), FIELD(channel, modulation), FIELD(channel, volume), FIELD(channel, pan), FIELD(channel, expression), FIELD(channel, hold);
-    FIELD(channel, rpn_msb), FIELD(channel, rpn_lsb), FIELD(channel, bend_msb), FIELD(channel, bend_lsb), FIELD(channel, sensitivity);
-    STRUCT(generators), FIELD(generators, state), FIELD(generators, channel), FIELD(generators, key), FIELD(generators, ages);
+    STRUCT(channel), FIELD(channel, program), FIELD(channel, modulation), FIELD(channel, volume), FIELD(channel, pan);
+    FIELD(channel, expression), FIELD(channel, hold), FIELD(channel, rpn_msb), FIELD(channel, rpn_lsb);
+    FIELD(channel, bend_msb), FIELD(channel, bend_lsb), FIELD(channel, sensitivity);
+    STRUCT(generators), FIELD(generators, state), FIELD(generators, channel), FIELD(generators, key);
+    FIELD(generators, ages);
     STRUCT(ages), FIELD(ages, count), FIELD(ages, generator);
-    STRUCT(answer), FIELD(answer, what), FIELD(answer, number), FIELD(answer, channel), FIELD(answer, key), FIELD(answer, generator), FIELD(answer, was);
-    STRUCT(generator_answer), FIELD(generator_answer, number), FIELD(generator_answer, state), FIELD(generator_answer, channel), FIELD(generator_answer, key);
+    STRUCT(answer), FIELD(answer, what), FIELD(answer, number), FIELD(answer, channel), FIELD(answer, key);
+    FIELD(answer, generator), FIELD(answer, was);
+    STRUCT(generator_answer), FIELD(generator_answer, number), FIELD(generator_answer, state);
+    FIELD(generator_answer, channel), FIELD(generator_answer, key);
     STRUCT(mask_answer), FIELD(mask_answer, number), FIELD(mask_answer, masked);
     STRUCT(share_answer), FIELD(share_answer, number), FIELD(share_answer, share);
-    STRUCT(pitch_answer), FIELD(pitch_answer, entry), FIELD(pitch_answer, octave), FIELD(pitch_answer, number), unlisted -= 2; /* padding */
-    STRUCT(gains_answer), FIELD(gains_answer, left), FIELD(gains_answer, right), FIELD(gains_answer, number), unlisted -= 3; /* padding */
+    STRUCT(pitch_answer), FIELD(pitch_answer, entry), FIELD(pitch_answer, octave), FIELD(pitch_answer, number);
+    unlisted -= 2; /* padding */
+    STRUCT(gains_answer), FIELD(gains_answer, left), FIELD(gains_answer, right), FIELD(gains_answer, number);
+    unlisted -= 3; /* padding */
     STRUCT(song_answer), FIELD(song_answer, thefts), FIELD(song_answer, number), unlisted -= 3; /* padding */
-    STRUCT(mip_answer), FIELD(mip_answer, line), FIELD(mip_answer, number), FIELD(mip_answer, bytes), unlisted -= 1; /* padding */
+    STRUCT(mip_answer), FIELD(mip_answer, line), FIELD(mip_answer, number), FIELD(mip_answer, bytes);
+    unlisted -= 1; /* padding */
     STRUCT(log), FIELD(log, song), FIELD(log, line);
-    STRUCT(logged), FIELD(logged, device), FIELD(logged, order), FIELD(logged, most), FIELD(logged, lines), FIELD(logged, number), unlisted -= 12; /* padding */
+    STRUCT(logged), FIELD(logged, device), FIELD(logged, order), FIELD(logged, most), FIELD(logged, lines);
+    FIELD(logged, number), unlisted -= 12; /* padding */
     STRUCT(log_line), FIELD(log_line, count), FIELD(log_line, bytes);
     check(unlisted == 0, "every field of the last struct is listed");
 }
@@ -636,6 +688,7 @@ int main(int argc, char **argv)
     log_parts();
     log_is_read();
     if (failures == 0)
-        printf("the record of %u bytes and that of a log, of %u, are the library's\n", (unsigned)sizeof(struct muntinorris_device), (unsigned)sizeof(struct muntinorris_log));
+        printf("the record of %u bytes and that of a log, of %u, are the library's\n",
+               (unsigned)sizeof(struct muntinorris_device), (unsigned)sizeof(struct muntinorris_log));
     return failures != 0;
 }

@@ -1,9 +1,11 @@
 /*
  * The service page from C, in buffers of every length from 0 to 512, with bytes on both sides that nobody may write:
- *   - from MUNTINORRIS_PAGE_BYTES on the first 323 bytes are the page, which is written out here, and the others keep their content;
+ *   - from MUNTINORRIS_PAGE_BYTES on the first 323 bytes are the page, which is written out here, and the others keep
+ *     their content;
  *   - below that the answer is MUNTINORRIS_PAGE_TOO_SHORT and no byte is written;
  *   - neither the record nor the memory beside it is changed.
- * Then on records that no call makes: 17 lines of 18 bytes, each ended by 0AH, and nothing else is written. tests/c_and_rust compiles and runs it.
+ * Then on records that no call makes: 17 lines of 18 bytes, each ended by 0AH, and nothing else is written.
+ * tests/c_and_rust compiles and runs it.
  */
 #include <stdio.h>
 #include <string.h>
@@ -18,12 +20,14 @@ static uint8_t *const buffer = around + MARGIN;
 static int failures;
 
 /*
- * Polyphony 24. The order is 4, 10, 1, 3, 2, 16, 5, 6 with values 0, 2, 12, 12, 20, 24, 100 and 127, so that 5 and 6 are listed and masked. Channel 1 has ten notes, two of them
- * sustained, channel 2 three, one of them releasing, channel 10 one.
+ * Polyphony 24. The order is 4, 10, 1, 3, 2, 16, 5, 6 with values 0, 2, 12, 12, 20, 24, 100 and 127, so that 5 and 6
+ * are listed and masked. Channel 1 has ten notes, two of them sustained, channel 2 three, one of them releasing,
+ * channel 10 one.
  */
 static const uint8_t song[] = {
     0xF0, 0x7F, 0x7F, 0x0B, 0x01, 3, 0, 9, 2, 0, 12, 2, 12, 1, 20, 15, 24, 4, 100, 5, 127, 0xF7,
-    0x90, 60, 64, 61, 64, 62, 64, 63, 64, 64, 64, 65, 64, 66, 64, 67, 64, 68, 64, 69, 64, 0xB0, 64, 127, 0x90, 60, 0, 61, 0,
+    0x90, 60, 64, 61, 64, 62, 64, 63, 64, 64, 64, 65, 64, 66, 64, 67, 64, 68, 64, 69, 64,
+    0xB0, 64, 127, 0x90, 60, 0, 61, 0,
     0x91, 60, 64, 61, 64, 62, 64, 61, 0, 0x99, 36, 64};
 static const char page[] =
     "CH PR VAL SHR M NT\n"
@@ -52,7 +56,10 @@ static void check(int holds, const char *what, unsigned length)
     }
 }
 
-/* The page in a buffer of this length, all memory as it was before kept aside. The record is lent as one that may not be written. */
+/*
+ * The page in a buffer of this length, all memory as it was before kept aside. The record is lent as one that may not
+ * be written.
+ */
 static unsigned ask(size_t length)
 {
     const struct muntinorris_device *lent = device;
@@ -68,7 +75,8 @@ static unsigned ask(size_t length)
 /* No byte but the buffer's first n is changed. */
 static int is_kept(size_t n)
 {
-    return memcmp(around, around_before, MARGIN) == 0 && memcmp(buffer + n, around_before + MARGIN + n, sizeof around - MARGIN - n) == 0 &&
+    return memcmp(around, around_before, MARGIN) == 0 &&
+           memcmp(buffer + n, around_before + MARGIN + n, sizeof around - MARGIN - n) == 0 &&
            memcmp(memory, memory_before, sizeof memory) == 0;
 }
 

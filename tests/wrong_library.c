@@ -1,7 +1,9 @@
 /*
- * A library that is wrong in one place: the proved one, whose functions are renamed to right_.., with one byte of what it gives or leaves changed. tests/faults links
- * it where the proved one belongs and sees the differential test fail. The environment says where: WRONG is one of the words below, AT the byte of it, BY what is added to the
- * byte, 1 if it is not said. With the word `weight` it is the weight at place AT of the pan to which BY is added, and the test of the weights must fail.
+ * A library that is wrong in one place: the proved one, whose functions are renamed to right_.., with one byte of what
+ * it gives or leaves changed. tests/faults links it where the proved one belongs and sees the differential test fail.
+ * The environment says where: WRONG is one of the words below, AT the byte of it, BY what is added to the byte, 1 if it
+ * is not said. With the word `weight` it is the weight at place AT of the pan to which BY is added, and the test of the
+ * weights must fail.
  */
 #include <stdlib.h>
 #include <string.h>
@@ -66,7 +68,8 @@ struct muntinorris_answer muntinorris_byte(struct muntinorris_device *d, uint8_t
     calls++;
     if (is_wrong("byte"))
         change(&a);
-    if (is_wrong("record") || (is_wrong("swallowing") && d->parser.status >= 0xF1 && d->parser.status <= 0xF3 && d->parser.count == 1) ||
+    if (is_wrong("record") ||
+        (is_wrong("swallowing") && d->parser.status >= 0xF1 && d->parser.status <= 0xF3 && d->parser.count == 1) ||
         (is_wrong("rubbish") && d->instrument.polyphony > 64))
         change(d);
     if (is_wrong("stolen") && a.what == MUNTINORRIS_NOTE && a.was == MUNTINORRIS_WAS_STOLEN)
@@ -113,8 +116,9 @@ struct muntinorris_share_answer muntinorris_share(const struct muntinorris_devic
 }
 
 /*
- * It waits for no byte: there is a page at the start already. AT counts from the beginning of the buffer, and from its end where memory behind it is meant, from the page's end where the
- * buffer behind that is. No record of ours has a polyphony above 64.
+ * It waits for no byte: there is a page at the start already. AT counts from the beginning of the buffer, and from its
+ * end where memory behind it is meant, from the page's end where the buffer behind that is. No record of ours has a
+ * polyphony above 64.
  */
 uint8_t muntinorris_page(const struct muntinorris_device *d, uint8_t *page, size_t length)
 {
@@ -132,9 +136,11 @@ uint8_t muntinorris_page(const struct muntinorris_device *d, uint8_t *page, size
         change(page);
     if (rubbish && length > MUNTINORRIS_PAGE_BYTES && is_meant("page of rubbish"))
         change(page);
-    if (is_meant("record of a page") || (rubbish && is_meant("record of a page of rubbish")) || (nowhere && is_meant("record of a page nowhere")))
+    if (is_meant("record of a page") || (rubbish && is_meant("record of a page of rubbish")) ||
+        (nowhere && is_meant("record of a page nowhere")))
         change((void *)d);
-    if (is_meant(number == 0 ? "number of a page" : "number of a refused page") || (nowhere && is_meant("number of a page nowhere")) ||
+    if (is_meant(number == 0 ? "number of a page" : "number of a refused page") ||
+        (nowhere && is_meant("number of a page nowhere")) ||
         (rubbish && is_meant(number == 0 ? "number of a page of rubbish" : "number of a refused page of rubbish")))
         change(&number);
     return number;
@@ -178,14 +184,18 @@ struct muntinorris_gains_answer muntinorris_channel_gains(const struct muntinorr
     struct muntinorris_gains_answer a = right_channel_gains(channel);
     int lone = channel->program > 127;
 
-    if (is_meant(a.number == 0 ? "channel gains" : "refused channel gains") || (lone && a.number == 0 && is_meant("lone channel gains")))
+    if (is_meant(a.number == 0 ? "channel gains" : "refused channel gains") ||
+        (lone && a.number == 0 && is_meant("lone channel gains")))
         change(&a);
     if (is_meant("written channel") || (lone && is_meant("written lone channel")))
         change((void *)channel);
     return a;
 }
 
-/* As a pitch. AT counts from the beginning of the buffer, and from its end where memory behind it is meant, from the song's end where the buffer behind that is. */
+/*
+ * As a pitch. AT counts from the beginning of the buffer, and from its end where memory behind it is meant, from the
+ * song's end where the buffer behind that is.
+ */
 struct muntinorris_song_answer muntinorris_write_song(uint8_t polyphony, size_t n, uint8_t *song, size_t length)
 {
     struct muntinorris_song_answer a = right_write_song(polyphony, n, song, length);
@@ -198,7 +208,8 @@ struct muntinorris_song_answer muntinorris_write_song(uint8_t polyphony, size_t 
         change(song);
     if (at >= 0 && (size_t)at < left && is_meant("buffer behind a song"))
         change(song + n);
-    if (a.number != 0 && at >= 0 && (size_t)at < length && is_meant(a.number == 1 ? "buffer of a song of a wrong P" : "buffer of a song too long"))
+    if (a.number != 0 && at >= 0 && (size_t)at < length &&
+        is_meant(a.number == 1 ? "buffer of a song of a wrong P" : "buffer of a song too long"))
         change(song);
     if (is_meant(a.number == 0 ? "song" : a.number == 1 ? "song of a wrong P" : "song too long"))
         change(&a);
@@ -233,7 +244,8 @@ uint8_t muntinorris_log_part(struct muntinorris_log *log, const uint8_t *part, s
     uint8_t number = right_log_part(log, part, n);
 
     write_lent("written part", part, n);
-    if (is_meant("read log") || (number != 0 && is_meant("read refused log")) || (is_meant("rubbish log") && log->song.device.instrument.polyphony > 64))
+    if (is_meant("read log") || (number != 0 && is_meant("read refused log")) ||
+        (is_meant("rubbish log") && log->song.device.instrument.polyphony > 64))
         change(log);
     if (is_meant(number == 0 ? "log part" : "refused log part"))
         change(&number);
@@ -251,7 +263,8 @@ struct muntinorris_mip_answer muntinorris_log_end(const struct muntinorris_log *
     return a;
 }
 
-struct muntinorris_mip_answer muntinorris_mip_from_log(const uint8_t *order, size_t n, const uint8_t *log, size_t length)
+struct muntinorris_mip_answer muntinorris_mip_from_log(const uint8_t *order, size_t n, const uint8_t *log,
+                                                       size_t length)
 {
     struct muntinorris_mip_answer a = right_mip_from_log(order, n, log, length);
 

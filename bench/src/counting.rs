@@ -1,8 +1,8 @@
 //! Instructions, by callgrind: each case is a set-up and then the calls that are counted.
 //!
 //! Between the parts `bench_mark` is called, before which callgrind writes out what it has counted so far and begins
-//! anew; so it leaves two files for each case, the set-up's and the counted one's, in the order of the lines printed here.
-//! A line has the case's name, how many calls were counted, what is made of them, and the target.
+//! anew; so it leaves two files for each case, the set-up's and the counted one's, in the order of the lines printed
+//! here. A line has the case's name, how many calls were counted, what is made of them, and the target.
 
 use crate::streams::{self, before_theft, four_notes_each, mip, Stream};
 use crate::subject::Subject;
@@ -320,8 +320,8 @@ fn count_pans<S: Subject>() {
     }
 }
 
-/// The gains of a channel of a fresh device. It is counted in a run of its own: a side may make a call for gains out of it, and
-/// callgrind, which turns counting on where a function begins, would turn it off where another one does.
+/// The gains of a channel of a fresh device. It is counted in a run of its own: a side may make a call for gains out of
+/// it, and callgrind, which turns counting on where a function begins, would turn it off where another one does.
 pub fn run_channels<S: Subject>() {
     let device = S::start(64);
     let channel = black_box(0);
@@ -473,7 +473,8 @@ fn random_notes(random: &mut Random) -> Vec<u8> {
         .collect()
 }
 
-/// The F7 of random MIP messages, and then the last byte of a note-on, on a device of 64 notes: a theft, or number 10 or 11.
+/// The F7 of random MIP messages, and then the last byte of a note-on, on a device of 64 notes: a theft, or number 10
+/// or 11.
 fn count_random<S: Subject>() {
     let mut random = Random::new(4);
     for _ in 0..RANDOM_CASES {

@@ -1,7 +1,9 @@
-//! `bench`: what the proved library costs, beside the second implementation, on the same streams, pages, pitches, gains and log, and on songs of one length, in one run.
+//! `bench`: what the proved library costs, beside the second implementation, on the same streams, pages, pitches, gains
+//! and log, and on songs of one length, in one run.
 //!
-//! Without arguments it prints times, and fails if a target is missed or the sides answer differently. `--count proved` and `--count paper`, and
-//! `--count-channels`, `--count-songs`, `--count-logs` and `--count-pages` with the same, are for the script `count`, which runs them under callgrind and prints instructions.
+//! Without arguments it prints times, and fails if a target is missed or the sides answer differently. `--count proved`
+//! and `--count paper`, and `--count-channels`, `--count-songs`, `--count-logs` and `--count-pages` with the same, are
+//! for the script `count`, which runs them under callgrind and prints instructions.
 
 mod counting;
 mod streams;
@@ -30,7 +32,10 @@ fn main() -> ExitCode {
         ["--count-pages", "proved"] => counting::run_pages::<subject::Proved>(),
         ["--count-pages", "paper"] => counting::run_pages::<subject::Paper>(),
         _ => {
-            eprintln!("usage: bench [--count | --count-channels | --count-songs | --count-logs | --count-pages proved|paper]");
+            eprintln!(
+                "usage: bench [--count | --count-channels | --count-songs | --count-logs | --count-pages \
+                 proved|paper]"
+            );
             return ExitCode::FAILURE;
         }
     }

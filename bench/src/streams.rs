@@ -1,4 +1,5 @@
-//! The streams, the devices whose pages are asked for, the pitches and gains, and the log, that both implementations are timed on.
+//! The streams, the devices whose pages are asked for, the pitches and gains, and the log, that both implementations
+//! are timed on.
 
 use random::Random;
 
@@ -34,7 +35,8 @@ pub struct Shown {
     pub heard: Vec<u8>,
 }
 
-/// A fresh device, one with every generator busy, one of which the page has every kind of line, and one whose table is looked through for most channels to its end.
+/// A fresh device, one with every generator busy, one of which the page has every kind of line, and one whose table is
+/// looked through for most channels to its end.
 pub fn shown() -> [Shown; 4] {
     let shown = |name, polyphony, heard| Shown {
         name,
@@ -96,8 +98,8 @@ pub struct Log {
     pub lines: usize,
 }
 
-/// Chords of three notes on sixteen channels in turn. A channel lets its chord go before it plays the next; drums end by
-/// reports. No note is lost, so that every line is played.
+/// Chords of three notes on sixteen channels in turn. A channel lets its chord go before it plays the next; drums end
+/// by reports. No note is lost, so that every line is played.
 pub fn chords() -> Log {
     let mut log = Log {
         order: [10, 1, 2, 3, 4, 5, 6, 7, 8, 9, 11, 12, 13, 14, 15, 16],

@@ -1,5 +1,5 @@
-//! What is measured: an implementation that takes bytes and reports, gives pages, pitches and gains, writes songs and reads logs
-//! through calls that are not inlined, so that both sides pay for a call.
+//! What is measured: an implementation that takes bytes and reports, gives pages, pitches and gains, writes songs and
+//! reads logs through calls that are not inlined, so that both sides pay for a call.
 
 /// An implementation with its answers reduced to what the measurement needs.
 pub trait Subject: Clone {

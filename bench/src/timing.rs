@@ -1,8 +1,9 @@
-//! Times both implementations on each stream, on pages, on pitches, on gains, on a song and on a log, and prints what a byte, a
-//! page, a pitch, a call for gains, the whole song or a line of the log costs.
+//! Times both implementations on each stream, on pages, on pitches, on gains, on a song and on a log, and prints what a
+//! byte, a page, a pitch, a call for gains, the whole song or a line of the log costs.
 //!
-//! The stream is cut into slices, and the two sides take each slice in alternation; of the times of a slice over several
-//! turns the median counts. So a machine that is busy with something else disturbs both sides alike, and little.
+//! The stream is cut into slices, and the two sides take each slice in alternation; of the times of a slice over
+//! several turns the median counts. So a machine that is busy with something else disturbs both sides alike, and
+//! little.
 
 use crate::streams::{self, Shown, Stream};
 use crate::subject::{Paper, Proved, Subject};
@@ -25,7 +26,8 @@ const LOG_PART: usize = 4096;
 /// Prints a row for each stream; false if a target was missed.
 pub fn run() -> bool {
     println!(
-        "medians of {TURNS} turns, the sides in alternation; ns a byte, page, pitch, call for gains or line, million messages or lines a second"
+        "medians of {TURNS} turns, the sides in alternation; \
+         ns a byte, page, pitch, call for gains or line, million messages or lines a second"
     );
     println!(
         "{:30} {:>8} {:>8} {:>7} {:>8} {:>8}  target",
@@ -157,7 +159,8 @@ fn print_gains() {
     );
 }
 
-/// Times both sides' gains in turn. They need not be the same, but each side's are within a millionth of the right ones.
+/// Times both sides' gains in turn. They need not be the same, but each side's are within a millionth of the right
+/// ones.
 fn print_turns<T>(
     name: &str,
     calls: &[T],

@@ -123,8 +123,9 @@ pub struct MipMessage {
 #[derive(Clone, Copy, Debug, PartialEq, Eq)]
 pub struct Refused(pub u8);
 
-/// A log that gives no message. The number: 15, a line is of another form; 16, the order has not every channel once; 17,
-/// a line ends a MIP message for device 7F or 0, or a note is lost at it. The line that it fell at, from 1; 0 with 16.
+/// A log that gives no message. The number: 15, a line is of another form; 16, the order has not every channel once;
+/// 17, a line ends a MIP message for device 7F or 0, or a note is lost at it. The line that it fell at, from 1; 0 with
+/// 16.
 #[derive(Clone, Copy, Debug, PartialEq, Eq)]
 pub struct RefusedLog {
     pub number: u8,

@@ -205,15 +205,23 @@ pub fn layout() -> String {
     macro_rules! lay {
         ($name:literal, $type:ident { $($field:ident: $of:ty),* }) => {
             lines.push_str(&format!("{} {}\n", $name, size_of::<$type>()));
-            $(lines.push_str(&format!("{}.{} {} {}\n", $name, stringify!($field), std::mem::offset_of!($type, $field), size_of::<$of>()));)*
+            $(
+                let (place, size) = (std::mem::offset_of!($type, $field), size_of::<$of>());
+                lines.push_str(&format!("{}.{} {place} {size}\n", $name, stringify!($field)));
+            )*
         };
     }
     lay!("device", Device { parser: Parser, instrument: Instrument });
     lay!("parser", Parser { status: u8, count: u8, bytes: [u8; 37] });
-    lay!("instrument", Instrument { polyphony: u8, id: u8, table: Table, channels: [Channel; 16], generators: Generators });
+    lay!("instrument", Instrument {
+        polyphony: u8, id: u8, table: Table, channels: [Channel; 16], generators: Generators
+    });
     lay!("table", Table { count: u8, entries: [Entry; 16] });
     lay!("entry", Entry { channel: u8, value: u8 });
-    lay!("channel", Channel { program: u8, modulation: u8, volume: u8, pan: u8, expression: u8, hold: u8, rpn_msb: u8, rpn_lsb: u8, bend_msb: u8, bend_lsb: u8, sensitivity: u8 });
+    lay!("channel", Channel {
+        program: u8, modulation: u8, volume: u8, pan: u8, expression: u8, hold: u8, rpn_msb: u8, rpn_lsb: u8,
+        bend_msb: u8, bend_lsb: u8, sensitivity: u8
+    });
     lay!("generators", Generators { state: [u8; 64], channel: [u8; 64], key: [u8; 64], ages: Ages });
     lay!("ages", Ages { count: u8, generator: [u8; 64] });
     lay!("answer", AnswerNumbers { what: u8, number: u8, channel: u8, key: u8, generator: u8, was: u8 });

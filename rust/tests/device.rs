@@ -13,7 +13,10 @@ fn note(channel: u8, key: u8, generator: u8, was: Was) -> Answer {
 fn listing_of_document_01() {
     let (mut device, answer) = Device::start(2, 0);
     assert_eq!(answer, Answer::Done);
-    let bytes = [0xF0, 0x7F, 0x7F, 0x0B, 0x01, 0x00, 0x01, 0x01, 0x02, 0xF7, 0x90, 0x3C, 0x40, 0x3E, 0x40, 0x91, 0x40, 0x40, 0x92, 0x40, 0x40];
+    let bytes = [
+        0xF0, 0x7F, 0x7F, 0x0B, 0x01, 0x00, 0x01, 0x01, 0x02, 0xF7,
+        0x90, 0x3C, 0x40, 0x3E, 0x40, 0x91, 0x40, 0x40, 0x92, 0x40, 0x40,
+    ];
     let expected = [
         Answer::Done,
         note(1, 60, 0, Was::Idle),
@@ -33,7 +36,10 @@ fn refused_starts_leave_a_working_device() {
         let (mut device, answer) = Device::start(polyphony, id);
         assert_eq!(answer, Answer::Number(number));
         assert_eq!((device.instrument().polyphony, device.instrument().id), (1, 0));
-        assert_eq!(play(&mut device, &[0x99, 0x24, 0x40, 0x90, 0x3C, 0x40]), [note(10, 36, 0, Was::Idle), Answer::NoNote { number: 11, channel: 1, key: 60 }]);
+        assert_eq!(
+            play(&mut device, &[0x99, 0x24, 0x40, 0x90, 0x3C, 0x40]),
+            [note(10, 36, 0, Was::Idle), Answer::NoNote { number: 11, channel: 1, key: 60 }]
+        );
     }
 }
 
@@ -42,7 +48,10 @@ fn reports_and_releases() {
     let (mut device, _) = Device::start(1, 0);
     assert_eq!(device.report(0), Answer::Number(13));
     assert_eq!(device.report(1), Answer::Number(12));
-    assert_eq!(play(&mut device, &[0x90, 60, 64, 60, 0, 61, 64]), [note(1, 60, 0, Was::Idle), Answer::Done, note(1, 61, 0, Was::Release)]);
+    assert_eq!(
+        play(&mut device, &[0x90, 60, 64, 60, 0, 61, 64]),
+        [note(1, 60, 0, Was::Idle), Answer::Done, note(1, 61, 0, Was::Release)]
+    );
     assert_eq!(device.report(0), Answer::Done);
     assert_eq!(device.generator(0), Ok(Generator { state: State::Idle, channel: 0, key: 0 }));
 }
@@ -98,14 +107,24 @@ fn states_of_a_generator() {
 #[test]
 fn the_record_is_readable() {
     let (mut device, _) = Device::start(3, 5);
-    play(&mut device, &[0xC1, 50, 0xB1, 1, 31, 7, 32, 10, 33, 11, 34, 64, 35, 101, 0, 100, 0, 6, 7, 0xE1, 9, 70, 0x91, 60, 64, 61, 64, 0x92, 62]);
+    let bytes = [
+        0xC1, 50, 0xB1, 1, 31, 7, 32, 10, 33, 11, 34, 64, 35, 101, 0, 100, 0, 6, 7, 0xE1, 9, 70,
+        0x91, 60, 64, 61, 64, 0x92, 62,
+    ];
+    play(&mut device, &bytes);
     let (parser, instrument) = (device.parser(), device.instrument());
     assert_eq!((parser.status, parser.count, parser.bytes[0]), (0x92, 1, 62));
     assert_eq!((instrument.polyphony, instrument.id, instrument.table.count), (3, 5, 16));
     assert_eq!((instrument.table.entries[0].channel, instrument.table.entries[0].value), (10, 3));
     let channel = instrument.channels[1];
-    assert_eq!((channel.program, channel.modulation, channel.volume, channel.pan, channel.expression, channel.hold), (50, 31, 32, 33, 34, 35));
-    assert_eq!((channel.rpn_msb, channel.rpn_lsb, channel.bend_msb, channel.bend_lsb, channel.sensitivity), (0, 0, 70, 9, 7));
+    assert_eq!(
+        (channel.program, channel.modulation, channel.volume, channel.pan, channel.expression, channel.hold),
+        (50, 31, 32, 33, 34, 35)
+    );
+    assert_eq!(
+        (channel.rpn_msb, channel.rpn_lsb, channel.bend_msb, channel.bend_lsb, channel.sensitivity),
+        (0, 0, 70, 9, 7)
+    );
     let generators = &instrument.generators;
     assert_eq!((generators.state[1], generators.channel[1], generators.key[1]), (1, 2, 61));
     assert_eq!((generators.ages.count, generators.ages.generator[1]), (2, 1));

@@ -1,5 +1,6 @@
-//! Gains over the library. Its weights are read back, and each is held against the sine, of which no proof speaks, with more digits than an f64 has. Then every gain of every accepted
-//! call is held against its exact fraction, and a channel of the record against the call by its numbers.
+//! Gains over the library. Its weights are read back, and each is held against the sine, of which no proof speaks, with
+//! more digits than an f64 has. Then every gain of every accepted call is held against its exact fraction, and a
+//! channel of the record against the call by its numbers.
 use muntinorris::{gains, Device, Gains, Refused};
 
 /// Fixed point: 60 bits behind the point. No float has a part in the sine.
@@ -7,8 +8,8 @@ const ONE: i128 = 1 << 60;
 /// Pi, cut off behind its last bit.
 const PI: i128 = 3622009729038561421;
 
-/// 32768 × sin(pi × p / 252) by the sine's series, for p from 0 to 126. Pi and each of the at most 30 terms are off by less than 4 of the last place, so that the sum is off by less
-/// than 2^-52, and 32768 times it by less than 2^-37.
+/// 32768 × sin(pi × p / 252) by the sine's series, for p from 0 to 126. Pi and each of the at most 30 terms are off by
+/// less than 4 of the last place, so that the sum is off by less than 2^-52, and 32768 times it by less than 2^-37.
 fn sine(p: usize) -> i128 {
     let x = PI * p as i128 / 252;
     let square = x * x / ONE;
@@ -26,7 +27,8 @@ fn is_nearest(p: usize, w: i128) -> bool {
     2 * (w * ONE - sine(p)).abs() < ONE
 }
 
-/// At full expression and volume a gain is its weight over 32768, to a millionth, so that the weight is the nearest whole number to 32768 times it.
+/// At full expression and volume a gain is its weight over 32768, to a millionth, so that the weight is the nearest
+/// whole number to 32768 times it.
 fn weight(gain: f32) -> i128 {
     let scaled = f64::from(gain) * 32768.0;
     assert!((scaled - scaled.round()).abs() <= 0.033, "{gain}");
@@ -42,7 +44,8 @@ fn weights() -> Vec<i128> {
 fn the_sine_has_digits_enough() {
     // sin(pi / 6) is a half, and sin(pi / 2) is 1
     assert!((sine(42) - 16384 * ONE).abs() < 1 << 23 && (sine(126) - 32768 * ONE).abs() < 1 << 23);
-    // no sine is within 2^-9 of the middle between two whole numbers (the closest, of place 36, is 0.0023 away), so that the last digits decide nothing
+    // no sine is within 2^-9 of the middle between two whole numbers (the closest, of place 36, is 0.0023 away), so
+    // that the last digits decide nothing
     assert!((0..127).all(|p| (sine(p).rem_euclid(ONE) - ONE / 2).abs() > ONE >> 9));
 }
 
@@ -69,7 +72,11 @@ fn pan_0_and_1_are_alike_and_left_mirrors_right() {
         assert_eq!((weight(g.left), weight(g.right)), (w[126 - p], w[p]), "{pan}");
     }
     assert_eq!(gains(127, 127, 0), gains(127, 127, 1));
-    assert_eq!(gains(127, 127, 0), Ok(Gains { left: 1.0, right: 0.0 }), "1 to the last bit, which is more than the contract says");
+    assert_eq!(
+        gains(127, 127, 0),
+        Ok(Gains { left: 1.0, right: 0.0 }),
+        "1 to the last bit, which is more than the contract says"
+    );
 }
 
 #[test]

@@ -1,4 +1,5 @@
-//! The MIP message of a log over the library: what an arranger reads off it, each number at its line, a log in parts, and the message sent to a device.
+//! The MIP message of a log over the library: what an arranger reads off it, each number at its line, a log in parts,
+//! and the message sent to a device.
 use muntinorris::{mip_from_log, Answer, Device, Log, MipMessage, Refused, RefusedLog, State};
 use std::mem::{size_of, MaybeUninit};
 
@@ -36,7 +37,11 @@ fn by_hand(order: &[u8], events: &[(bool, u8)]) -> Vec<u8> {
         } else {
             device.report(*n);
         }
-        let busy: Vec<u8> = (0..64).map(|g| device.generator(g).unwrap()).filter(|g| matches!(g.state, State::Held | State::Sustained)).map(|g| g.channel).collect();
+        let busy: Vec<u8> = (0..64)
+            .map(|g| device.generator(g).unwrap())
+            .filter(|g| matches!(g.state, State::Held | State::Sustained))
+            .map(|g| g.channel)
+            .collect();
         for (place, largest) in most.iter_mut().enumerate() {
             let joint = busy.iter().filter(|channel| order[..=place].contains(channel)).count() as u8;
             *largest = joint.max(*largest);
@@ -59,10 +64,12 @@ fn values_are_joint_counts() {
     // both at once: the second place needs one, the third two
     assert_eq!(written(&bytes(&[0x90, 60, 64, 0x9F, 60, 64]))[..3], [0, 1, 2]);
     // a drum and a chord on channel 3, one note of which the pedal holds
-    assert_eq!(written(&bytes(&[0xB2, 64, 127, 0x99, 36, 64, 0x92, 60, 64, 60, 0, 62, 64, 64, 64]))[..6], [1, 1, 1, 1, 4, 4]);
+    let chord = bytes(&[0xB2, 64, 127, 0x99, 36, 64, 0x92, 60, 64, 60, 0, 62, 64, 64, 64]);
+    assert_eq!(written(&chord)[..6], [1, 1, 1, 1, 4, 4]);
     // a releasing note is not busy; what was seen before a reset stays
     assert_eq!(written(&bytes(&[0x90, 60, 64, 61, 64, 60, 0, 61, 0, 62, 64]))[1], 2);
-    assert_eq!(written(&(bytes(&[0x90, 60, 64, 61, 64]) + &bytes(&[0xF0, 0x7E, 0x7F, 0x09, 0x01, 0xF7, 0x90, 60, 64])))[1], 2);
+    let reset = bytes(&[0xF0, 0x7E, 0x7F, 0x09, 0x01, 0xF7, 0x90, 60, 64]);
+    assert_eq!(written(&(bytes(&[0x90, 60, 64, 61, 64]) + &reset))[1], 2);
     // after a report the generator is free
     assert_eq!(written(&(bytes(&[0x90, 60, 64]) + "e,0\n" + &bytes(&[61, 64])))[1], 1);
 }
@@ -93,14 +100,18 @@ fn values_are_those_of_a_device() {
                 events.push((false, next(64) as u8));
             }
         }
-        let log: String = events.iter().map(|(is_byte, n)| format!("{},{n}\n", if *is_byte { 'b' } else { 'e' })).collect();
+        let log: String = events
+            .iter()
+            .map(|(is_byte, n)| format!("{},{n}\n", if *is_byte { 'b' } else { 'e' }))
+            .collect();
         let message = mip_from_log(&order, log.as_bytes()).unwrap();
         assert_eq!(values(&order, message), by_hand(&order, &events));
         assert_eq!(message.lines, events.len() as u64);
     }
 }
 
-/// RP-034 2.2.1: the notes of each channel in its Figure 2, and the message that is printed for them. Which notes sound at the same time our text of the figure has lost; these moments fit its values.
+/// RP-034 2.2.1: the notes of each channel in its Figure 2, and the message that is printed for them. Which notes sound
+/// at the same time our text of the figure has lost; these moments fit its values.
 #[test]
 fn the_message_that_rp_034_prints() {
     let order = [1, 10, 2, 3, 4, 11, 5, 9, 6, 8, 7, 12, 13, 14, 15, 16];
@@ -119,7 +130,8 @@ fn the_message_that_rp_034_prints() {
         }
         log += &(0..16).map(|channel| bytes(&[0xB0 + channel, 120, 0])).collect::<String>();
     }
-    let printed = "F0 7F 7F 0B 01 00 04 09 09 01 0A 02 0C 03 0C 0A 10 04 11 08 14 05 1A 07 1A 06 1A 0B 1A 0C 1A 0D 1A 0E 1A 0F 1A F7";
+    let printed = "F0 7F 7F 0B 01 00 04 09 09 01 0A 02 0C 03 0C 0A 10 04 11 08 14 05 1A 07 1A 06 1A \
+                   0B 1A 0C 1A 0D 1A 0E 1A 0F 1A F7";
     let message = mip_from_log(&order, log.as_bytes()).unwrap();
     assert_eq!(message.bytes.map(|byte| format!("{byte:02X}")).join(" "), printed);
 }
@@ -161,7 +173,12 @@ fn numbers_and_their_lines() {
         assert_eq!(parts.end(), refused(number, line), "{log:?}");
     }
     // a MIP message for another ID, a cut one and one without its head are none; other numbers are passed over
-    for log in [mip(5, &[0, 1]), bytes(&[0xF0, 0x7F, 0x7F, 0x0B, 0x01, 0, 1, 0x90]), bytes(&[0xF0, 0x7F, 0x7F, 0x0B, 0xF7]), "b,60\ne,63\n".to_string()] {
+    for log in [
+        mip(5, &[0, 1]),
+        bytes(&[0xF0, 0x7F, 0x7F, 0x0B, 0x01, 0, 1, 0x90]),
+        bytes(&[0xF0, 0x7F, 0x7F, 0x0B, 0xF7]),
+        "b,60\ne,63\n".to_string(),
+    ] {
         assert_eq!(written(&log), [0; 16], "{log:?}");
     }
 }
@@ -200,7 +217,8 @@ fn however_it_is_cut() {
         }
         assert_eq!(part.end(), mip_from_log(&ORDER, &log[..first]), "{first}");
     }
-    assert_eq!((whole.song().lines, whole.song().number, whole.line().count, whole.line().bytes), (10, 15, 1, [b'b', 0, 0, 0, 0, 0, 0]));
+    let (song, line) = (whole.song(), whole.line());
+    assert_eq!((song.lines, song.number, line.count, line.bytes), (10, 15, 1, [b'b', 0, 0, 0, 0, 0, 0]));
 }
 
 #[test]
@@ -280,7 +298,8 @@ fn records_full_of_rubbish() {
             other => panic!("{other:?}"),
         }
         let end = log.end();
-        assert_eq!(end.map(|m| m.lines).map_err(|e| e.line), if number.is_ok() { Ok(log.song().lines) } else { Err(log.song().lines) });
+        let lines = log.song().lines;
+        assert_eq!(end.map(|m| m.lines).map_err(|e| e.line), if number.is_ok() { Ok(lines) } else { Err(lines) });
     }
     assert!(0 < spoilt && spoilt < 2_000);
 }

@@ -8,7 +8,8 @@ fn position(key: i32, sensitivity: i32, bend: i32) -> i32 {
 
 #[test]
 fn octave_of_every_position() {
-    let table: Vec<u32> = (0..192u32).map(|i| pitch((i / 16) as u8, 1, (8192 + i % 16 * 512) as u16).unwrap().entry).collect();
+    let entry = |i: u32| pitch((i / 16) as u8, 1, (8192 + i % 16 * 512) as u16).unwrap().entry;
+    let table: Vec<u32> = (0..192).map(entry).collect();
     assert_eq!((table[0], table[191]), (65536, 130599));
     for key in [0, 1, 11, 12, 60, 126, 127] {
         for sensitivity in 0..=24 {

@@ -1,4 +1,5 @@
-//! The hardest song over the library: played anew on a device it makes as many thefts as the call told, and as many as R13.1 says; no more bytes than it should are written.
+//! The hardest song over the library: played anew on a device it makes as many thefts as the call told, and as many as
+//! R13.1 says; no more bytes than it should are written.
 use muntinorris::{write_song, Answer, Device, Refused, Was};
 
 /// The thefts of a list of bytes on a fresh device.
@@ -36,7 +37,16 @@ fn the_longest_song() {
 
 #[test]
 fn refused_songs_leave_the_buffer() {
-    for (polyphony, n, length, number) in [(0, 3, 4, 1), (65, 3, 4, 1), (255, 5, 4, 1), (0, 65_537, 4, 1), (64, 5, 4, 25), (1, 1, 0, 25), (1, usize::MAX, 4, 25), (64, 65_537, 65_540, 25)] {
+    for (polyphony, n, length, number) in [
+        (0, 3, 4, 1),
+        (65, 3, 4, 1),
+        (255, 5, 4, 1),
+        (0, 65_537, 4, 1),
+        (64, 5, 4, 25),
+        (1, 1, 0, 25),
+        (1, usize::MAX, 4, 25),
+        (64, 65_537, 65_540, 25),
+    ] {
         let mut song = vec![0xA5; length];
         assert_eq!(write_song(polyphony, n, &mut song), Err(Refused(number)), "{polyphony} {n}");
         assert_eq!(song, vec![0xA5; length], "{polyphony} {n}");
@@ -44,7 +54,8 @@ fn refused_songs_leave_the_buffer() {
     assert_eq!(write_song(64, 0, &mut []), Ok(0));
 }
 
-/// Songs of a driver's nightmares, none of which is worse: notes on all channels, drums, pedals, running status broken by real-time bytes, MIP messages, resets.
+/// Songs of a driver's nightmares, none of which is worse: notes on all channels, drums, pedals, running status broken
+/// by real-time bytes, MIP messages, resets.
 #[test]
 fn no_other_song_does_worse() {
     let songs: [&[u8]; 6] = [
@@ -57,7 +68,10 @@ fn no_other_song_does_worse() {
     ];
     for polyphony in 1..=4 {
         for song in songs {
-            assert!((0..=song.len()).all(|n| thefts(polyphony, 0, &song[..n]) <= most(polyphony, n)), "{polyphony} {song:?}");
+            assert!(
+                (0..=song.len()).all(|n| thefts(polyphony, 0, &song[..n]) <= most(polyphony, n)),
+                "{polyphony} {song:?}"
+            );
         }
         // the first is as hard as ours, so that a bound one lower would be noticed
         assert_eq!(thefts(polyphony, 0, songs[0]), most(polyphony, songs[0].len()));

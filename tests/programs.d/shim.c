@@ -2,7 +2,8 @@
    short         a call moves three bytes at most
    interrupted   every call but each third is interrupted before it moves a byte (EINTR)
    later         each call would block twice (EAGAIN) before it moves bytes
-   never_read    no read moves a byte (EAGAIN); never_write, zero_write: no write to standard output does (EAGAIN; the answer 0) */
+   never_read    no read moves a byte (EAGAIN); never_write, zero_write: no write to standard output does (EAGAIN; the
+                 answer 0) */
 #define _GNU_SOURCE
 #include <dlfcn.h>
 #include <errno.h>

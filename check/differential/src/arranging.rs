@@ -226,7 +226,8 @@ fn words(number: u64, log: &Log, what: &str) -> String {
     let shown = &bytes[..bytes.len().min(SHOWN)];
     let text = String::from_utf8_lossy(shown).escape_debug().to_string();
     format!(
-        "log: number {number}, {kind:?}, {} bytes in {} parts behind {behind} lines, order {:?}: {what}; it begins {text}",
+        "log: number {number}, {kind:?}, {} bytes in {} parts behind {behind} lines, order {:?}: {what}; \
+         it begins {text}",
         bytes.len(),
         parts.len(),
         &order[..order.len().min(20)]

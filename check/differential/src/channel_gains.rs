@@ -1,5 +1,5 @@
-//! Asks two implementations for the gains of a channel's numbers: three of the eleven count, and the other eight must be
-//! seen not to.
+//! Asks two implementations for the gains of a channel's numbers: three of the eleven count, and the other eight must
+//! be seen not to.
 
 use crate::gains::{is_identical, Answered, Compared};
 use proved::Channel;

@@ -143,7 +143,8 @@ fn makes_so_many(polyphony: u8, song: &[u8], thefts: u32) -> Result<(), String> 
         return Ok(());
     }
     Err(format!(
-        "{thefts} thefts answered, {played} when the second implementation plays the song, {played_too} when the library does, {most} by the formula"
+        "{thefts} thefts answered, {played} when the second implementation plays the song, \
+         {played_too} when the library does, {most} by the formula"
     ))
 }
 
@@ -167,7 +168,8 @@ fn is_as_documented(song: &[u8]) -> Result<(), String> {
 /// What a buffer holds before: nothing, noise, and bytes that the song itself has.
 const FILLS: [u8; 6] = [0x00, 0xFF, 0xA5, 0x90, 0x40, 0x07];
 
-/// Every call of a run. The first ones are few and find most of what can be wrong, then come the longest songs, and then every P.
+/// Every call of a run. The first ones are few and find most of what can be wrong, then come the longest songs, and
+/// then every P.
 pub fn calls() -> impl Iterator<Item = Call> {
     few_calls()
         .chain(longest().skip(1))
@@ -310,7 +312,11 @@ pub fn play_those_of_the_reference() -> Result<u64, String> {
         for (at, thefts) in counts.enumerate() {
             let most = most_thefts(polyphony, at + 1);
             if thefts as usize != most {
-                return Err(format!("song: P {polyphony}, the second implementation's, {} bytes: {thefts} thefts on the library, {most} by the formula", at + 1));
+                return Err(format!(
+                    "song: P {polyphony}, the second implementation's, {} bytes: {thefts} thefts on the library, \
+                     {most} by the formula",
+                    at + 1
+                ));
             }
             songs += 1;
         }

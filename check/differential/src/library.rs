@@ -113,7 +113,8 @@ pub fn survive_rubbish(random: &mut Random, records: usize) -> Given<()> {
     Ok(())
 }
 
-/// Pages of such records: each is 17 lines in a buffer that has room for them, and nothing else is written, nor is the record.
+/// Pages of such records: each is 17 lines in a buffer that has room for them, and nothing else is written, nor is the
+/// record.
 pub fn survive_pages(random: &mut Random, records: usize) -> Result<(), String> {
     let rubbish = Rubbish::new(random);
     for _ in 0..records {

@@ -178,7 +178,8 @@ fn mutate(random: &mut Random, byte: u8, events: &mut Vec<Event>) {
     }
 }
 
-/// A status and then keys in turn, up or down, more of them than generators or not: each steals, but for what is changed.
+/// A status and then keys in turn, up or down, more of them than generators or not: each steals, but for what is
+/// changed.
 fn thefts(random: &mut Random, length: usize) -> Vec<Event> {
     let status = 0x90 | random.below(16) as u8;
     let (first, keys) = (random.below(128), random.pick(&[128, 128, 117, 65, 64, 12]));

@@ -1,7 +1,7 @@
 //! The lines of logs: music that stays within the 64 generators, what spoils it, and lines of other forms.
 //!
-//! A device plays along, so that the musician knows which keys to let go and which generators to report. What a log must
-//! yield is not known here; both sides of the comparison say that.
+//! A device plays along, so that the musician knows which keys to let go and which generators to report. What a log
+//! must yield is not known here; both sides of the comparison say that.
 
 use crate::drums::{excludes, DRUM_CHANNEL};
 use crate::lists::{self, pick_weighted};
@@ -204,7 +204,8 @@ impl Musician<'_> {
         }
     }
 
-    /// A key that is down or on the pedal once more, or on channel 10 another one of its group: there is room for it always.
+    /// A key that is down or on the pedal once more, or on channel 10 another one of its group: there is room for it
+    /// always.
     fn key_again(&mut self) {
         let busy = self.busy();
         let Some(&(_, view)) = busy.get(self.random.below(busy.len().max(1))) else {
@@ -430,8 +431,9 @@ impl Musician<'_> {
 #[rustfmt::skip]
 const WRONG_LINES: [&[u8]; 48] = [
     b"", b"b", b"e", b",", b"b,", b"e,", b"144", b"b144", b"e5", b"b,256", b"b,257", b"b,260",
-    b"b,299", b"b,300", b"b,400", b"b,511", b"b,512", b"b,999", b"b,1000", b"b,1440", b"e,64", b"e,65", b"e,99", b"e,127",
-    b"e,128", b"e,255", b"e,256", b"b,00", b"b,01", b"b,090", b"b,0144", b"e,00", b"e,07", b"e,063", b"b,-1", b"b,+1",
+    b"b,299", b"b,300", b"b,400", b"b,511", b"b,512", b"b,999", b"b,1000", b"b,1440",
+    b"e,64", b"e,65", b"e,99", b"e,127", b"e,128", b"e,255", b"e,256",
+    b"b,00", b"b,01", b"b,090", b"b,0144", b"e,00", b"e,07", b"e,063", b"b,-1", b"b,+1",
     b"b,-0", b"b, 1", b" b,1", b"b,1 ", b"b ,1", b"B,144", b"E,5", b"b,144\r", b"b;144", b"c,144", b"b,0x90", b"b,144,",
 ];
 

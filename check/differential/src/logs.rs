@@ -308,7 +308,8 @@ fn orders() -> impl Iterator<Item = Vec<u8>> {
     cut.chain(long).chain(other).chain(balanced()).chain(turned)
 }
 
-/// Orders of up to 20 channels: rising ones, those that begin anew, the wire's numbers, and one channel again and again.
+/// Orders of up to 20 channels: rising ones, those that begin anew, the wire's numbers, and one channel again and
+/// again.
 fn orders_of(length: usize) -> [Vec<u8>; 4] {
     let up_to = |from: u8| (from..).take(length).collect();
     let again = by_number().into_iter().cycle().take(length).collect();

@@ -1,9 +1,9 @@
 //! `differential`: the proved library and the second implementation on the same events and logs, and asked for the same
 //! pages, pitches, gains and songs.
 //!
-//! `--events N`, `--logs N` and `--seed S` choose the run; `--all-pitches` asks for every pitch there is, not for a sample;
-//! `--self-test` shows instead that the comparison finds wrong variants. The exit code is 0 only if nothing differed
-//! and every answer was reached.
+//! `--events N`, `--logs N` and `--seed S` choose the run; `--all-pitches` asks for every pitch there is, not for a
+//! sample; `--self-test` shows instead that the comparison finds wrong variants. The exit code is 0 only if nothing
+//! differed and every answer was reached.
 
 mod arranging;
 mod arranging_self_test;
@@ -169,7 +169,8 @@ fn logs(options: &Options, tally: &mut Tally) -> Result<arranging::Reached, Stri
     comparison.run(options.seed, options.logs)?;
     let reached = comparison.reached;
     println!(
-        "{} logs compared, {} lines in {} parts, {} ends asked for in the middle, no difference; {} messages with {} values above 0, each taken by both sides, {:.1} s",
+        "{} logs compared, {} lines in {} parts, {} ends asked for in the middle, no difference; \
+         {} messages with {} values above 0, each taken by both sides, {:.1} s",
         reached.logs,
         reached.lines,
         reached.parts,
@@ -249,7 +250,9 @@ fn songs(tally: &mut Tally) -> Result<(), String> {
     tally.refused(Number::PolyphonyOutOfRange, compared.bad_polyphony);
     tally.refused(Number::SongTooLong, compared.too_long);
     println!(
-        "{} calls for songs compared, {} of them refused, no difference; {} songs played anew on both sides, {} thefts; {nowhere} calls without a buffer; {played} songs of the second implementation played, {:.1} s",
+        "{} calls for songs compared, {} of them refused, no difference; \
+         {} songs played anew on both sides, {} thefts; {nowhere} calls without a buffer; \
+         {played} songs of the second implementation played, {:.1} s",
         compared.calls,
         compared.bad_polyphony + compared.too_long,
         compared.songs,
@@ -295,19 +298,23 @@ fn print(reached: &Reached, seconds: f64) {
         reached.events, reached.lists
     );
     println!(
-        "{} calls for pages compared, {} of them refused, no difference; each page agrees with the library's queries and with the note book; lines: {}",
+        "{} calls for pages compared, {} of them refused, no difference; \
+         each page agrees with the library's queries and with the note book; lines: {}",
         reached.pages.pages,
         reached.pages.refused,
         reached.pages.words()
     );
     print!("{}", reached.tally);
-    println!("demand 3: {} note-ons within share, {} of them with every generator taken; {} thefts and refusals justified",
+    println!(
+        "demand 3: {} note-ons within share, {} of them with every generator taken; \
+         {} thefts and refusals justified",
         reached.claims.within_share,
         reached.claims.within_share_and_full,
         reached.claims.thefts_and_refusals
     );
     println!(
-        "most thefts: {} bytes from fresh devices without reports, {} of them with as many thefts before as there can be",
+        "most thefts: {} bytes from fresh devices without reports, \
+         {} of them with as many thefts before as there can be",
         reached.claims.since_fresh, reached.claims.at_most_thefts
     );
 }

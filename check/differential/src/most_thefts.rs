@@ -78,7 +78,8 @@ fn play(held: &mut Held, bound: Bound, polyphony: u8, list: Vec<u8>) -> Result<(
         let most = bound(polyphony, at + 1);
         if thefts[0] > most || thefts[0] != thefts[1] {
             return Err(format!(
-                "most thefts: P {polyphony}, {} bytes make {} on the library, {} on the second implementation, and at most {most} by the formula: {:02X?}",
+                "most thefts: P {polyphony}, {} bytes make {} on the library, {} on the second implementation, \
+                 and at most {most} by the formula: {:02X?}",
                 at + 1, thefts[0], thefts[1], &list[..=at]
             ));
         }

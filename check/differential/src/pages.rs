@@ -1,9 +1,9 @@
-//! Asks two implementations for their service pages in the middle of a list and compares number and bytes, and holds the page
-//! against the library's own queries and against the note book.
+//! Asks two implementations for their service pages in the middle of a list and compares number and bytes, and holds
+//! the page against the library's own queries and against the note book.
 //!
-//! Half of the pages are of copies that have just taken a MIP message: the lists seldom have values of three digits. Buffers are of
-//! any length and full of rubbish, with more of it on both sides. The random numbers are of its own, so that the lists are the
-//! same with pages and without.
+//! Half of the pages are of copies that have just taken a MIP message: the lists seldom have values of three digits.
+//! Buffers are of any length and full of rubbish, with more of it on both sides. The random numbers are of its own, so
+//! that the lists are the same with pages and without.
 
 use crate::book::Book;
 use crate::compare::{same, same_record};
@@ -87,7 +87,8 @@ impl Rubbish {
 /// Longer than a number of sixteen bits, and then of any length up to 400.
 const LARGE: usize = 1 << 16;
 
-/// The length of a buffer: from 0 to 400, mostly with room for a page, often just on one side of the limit, seldom large.
+/// The length of a buffer: from 0 to 400, mostly with room for a page, often just on one side of the limit, seldom
+/// large.
 pub fn some_length(random: &mut Random) -> usize {
     match random.below(500) {
         0 => LARGE + random.below(401),
@@ -239,8 +240,8 @@ pub struct Pages {
     pub reached: Reached,
 }
 
-/// A page is compared after so many events: often enough to reach everything, seldom enough to take little time. No length of a
-/// message has a part in common with it.
+/// A page is compared after so many events: often enough to reach everything, seldom enough to take little time. No
+/// length of a message has a part in common with it.
 pub const EVERY: u64 = 97;
 
 impl Pages {
@@ -253,8 +254,8 @@ impl Pages {
         }
     }
 
-    /// Compares the pages of both sides, whose record is this and whose book is that, in a buffer of any length; every other time
-    /// those of copies that have just taken another table.
+    /// Compares the pages of both sides, whose record is this and whose book is that, in a buffer of any length; every
+    /// other time those of copies that have just taken another table.
     pub fn turn(
         &mut self,
         a: &mut impl Implementation,
@@ -393,7 +394,8 @@ fn sums_up(page: &[u8], record: &Record) -> Result<(), String> {
     }
 }
 
-/// What the queries of both sides say of share, mask and generators, one by one, is what stands in the last three columns.
+/// What the queries of both sides say of share, mask and generators, one by one, is what stands in the last three
+/// columns.
 fn agrees_with_queries(
     page: &[u8],
     a: &impl Implementation,
@@ -479,8 +481,8 @@ pub fn nowhere() -> Result<u64, String> {
     Ok(calls)
 }
 
-/// The page of a record that no start made, in the same buffer twice, with other rubbish: it means nothing, but it is a page, the
-/// same one each time, and nothing else is written.
+/// The page of a record that no start made, in the same buffer twice, with other rubbish: it means nothing, but it is a
+/// page, the same one each time, and nothing else is written.
 pub fn judge_rubbish(length: usize, number: u8, twice: [&Memory; 2]) -> Result<(), String> {
     let expected = if length < PAGE_BYTES { 18 } else { 0 };
     if number != expected {

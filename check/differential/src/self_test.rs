@@ -11,7 +11,8 @@ use paper::{Number, Pitch};
 use random::Random;
 use wrong::Fault;
 
-/// Every wrong variant must be found within so many events, without a look at pages: those have a self-test of their own.
+/// Every wrong variant must be found within so many events, without a look at pages: those have a self-test of their
+/// own.
 const WITHIN: u64 = 1_000_000;
 
 /// Mistakes that both sides make alike: the comparison cannot see them, the claims must.

@@ -101,8 +101,8 @@ impl Tally {
             .collect()
     }
 
-    /// Each kind and number with its count. Number 14 comes of queries alone, 21 of pitches, 24 of gains, 25 of songs, 15 to 17 of logs, 18 of pages, 12 of queries
-    /// as well, 1 of songs as well.
+    /// Each kind and number with its count. Number 14 comes of queries alone, 21 of pitches, 24 of gains, 25 of songs,
+    /// 15 to 17 of logs, 18 of pages, 12 of queries as well, 1 of songs as well.
     fn rows(&self) -> impl Iterator<Item = (String, u64)> + '_ {
         let row = |(number, words): (Number, &str), counts: &[u64; PLACES]| {
             let count = counts[number as usize];

@@ -149,7 +149,8 @@ fn a_message_by_hand() {
     let words = "90 3C 40 40 40 92 3C 40 40 40 40 00 43 40 99 24 40";
     assert_eq!(values(words), rising(&[2, 2, 4, 4, 4, 4, 4, 4, 4, 5]));
     let arranged = mip_from_log(&ORDER, log(words).as_bytes());
-    let expected = "F0 7F 7F 0B 01 09 01 00 03 01 03 02 05 03 05 04 05 05 05 06 05 07 05 08 05 0A 05 0B 05 0C 05 0D 05 0E 05 0F 05 F7";
+    let expected = "F0 7F 7F 0B 01 09 01 00 03 01 03 02 05 03 05 04 05 05 05 06 05 07 05 08 05 \
+                    0A 05 0B 05 0C 05 0D 05 0E 05 0F 05 F7";
     assert_eq!(
         arranged.message.expect("a message").to_vec(),
         bytes(expected)

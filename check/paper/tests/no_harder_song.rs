@@ -129,7 +129,8 @@ fn all_lists_of_all_bytes() {
     search(1, &single(0..=255), 3);
 }
 
-/// Every kind of status, on channels 1 and 10, with a few data bytes: keys, velocities 0 and above, hold, 123, programs.
+/// Every kind of status, on channels 1 and 10, with a few data bytes: keys, velocities 0 and above, hold, 123,
+/// programs.
 #[test]
 fn all_lists_of_every_status() {
     let of_channels = (0x80..=0xE0)
@@ -141,8 +142,8 @@ fn all_lists_of_every_status() {
     search(1, &single(alphabet), 7);
 }
 
-/// Notes of channels 1, 2 and 10, also of an exclusive group: on, off by status and by velocity 0, again while they sound, by
-/// running status or not, cut short, and with a real-time byte between.
+/// Notes of channels 1, 2 and 10, also of an exclusive group: on, off by status and by velocity 0, again while they
+/// sound, by running status or not, cut short, and with a real-time byte between.
 #[test]
 fn all_lists_of_notes() {
     let alphabet = words("90, 91, 99, 80, 00, 01, 02, 2A, 2C, F8");
@@ -175,8 +176,8 @@ fn all_lists_of_bytes_of_a_system_on() {
     search(1, &alphabet, 14);
 }
 
-/// Notes between whole messages: tables that mask a channel, give shares to one or to both, or list the drums last, System
-/// On, pedals, and a song that begins with any of them.
+/// Notes between whole messages: tables that mask a channel, give shares to one or to both, or list the drums last,
+/// System On, pedals, and a song that begins with any of them.
 #[test]
 fn all_lists_of_notes_and_tables() {
     let alphabet = words(

@@ -150,12 +150,13 @@ fn places_and_values_of_masked_channels_are_shown() {
     ]));
 }
 
-/// Channel 1 has a key down and one on the pedal, channel 2 a key down and one that releases, channel 10 a drum that its note-off
-/// does not end.
+/// Channel 1 has a key down and one on the pedal, channel 2 a key down and one that releases, channel 10 a drum that
+/// its note-off does not end.
 #[test]
 #[rustfmt::skip]
 fn held_and_sustained_are_busy_and_releasing_is_not() {
-    let playing = mip("09 02 00 05 01 08") + " 90 3C 40 40 40 B0 40 7F 80 40 00 91 30 40 31 40 81 30 00 99 24 40 89 24 40";
+    let playing = mip("09 02 00 05 01 08")
+        + " 90 3C 40 40 40 B0 40 7F 80 40 00 91 30 40 31 40 81 30 00 99 24 40 89 24 40";
     assert_eq!(page_behind(8, &playing), lines([
         "CH PR VAL SHR M NT",
         " 1  2   5   3 -  2",

@@ -311,8 +311,8 @@ impl LogMemory {
 
     /// The record.
     pub fn log(&self) -> &Log {
-        // SAFETY: the memory is aligned and large enough for a record, which is made of whole numbers alone, so that any
-        // bytes are one.
+        // SAFETY: the memory is aligned and large enough for a record, which is made of whole numbers alone, so that
+        // any bytes are one.
         unsafe { &*self.0.as_ptr().cast() }
     }
 
@@ -369,11 +369,12 @@ impl Device {
         unsafe { muntinorris_share(self, channel) }
     }
 
-    /// The service page, written to the front of the buffer; its number. The record is lent for writing, which the call does not
-    /// do, so that a caller can look whether it did.
+    /// The service page, written to the front of the buffer; its number. The record is lent for writing, which the call
+    /// does not do, so that a caller can look whether it did.
     #[inline]
     pub fn page(&mut self, buffer: &mut [u8]) -> u8 {
-        // SAFETY: the pointers are to a whole record and to as many bytes as the length says, and these borrows are the only ones.
+        // SAFETY: the pointers are to a whole record and to as many bytes as the length says, and these borrows are the
+        // only ones.
         unsafe { muntinorris_page(self, buffer.as_mut_ptr(), buffer.len()) }
     }
 

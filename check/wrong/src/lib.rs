@@ -1,5 +1,5 @@
-//! The second implementation with one fault at will. The right code is paper's own, copied by build.rs; the wrong one is
-//! in faults/, each fault as the code that one place of paper has instead. Without a fault it does what paper does.
+//! The second implementation with one fault at will. The right code is paper's own, copied by build.rs; the wrong one
+//! is in faults/, each fault as the code that one place of paper has instead. Without a fault it does what paper does.
 
 #![allow(warnings)]
 
