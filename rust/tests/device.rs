@@ -10,7 +10,7 @@ fn note(channel: u8, key: u8, generator: u8, was: Was) -> Answer {
 }
 
 #[test]
-fn listing_of_document_01() {
+fn the_sample_of_readme() {
     let (mut device, answer) = Device::start(2, 0);
     assert_eq!(answer, Answer::Done);
     let bytes = [
