@@ -93,9 +93,8 @@ pub fn is_refused(a: Awaits) -> bool
 
 // The start: a refused one lists its number and takes no byte more.
 fn list_start(page: &mut [u8], used: &mut usize, polyphony: u8, id: u8) -> Lister
-    ensures { λ r. ⌜ Lists (now (page .entry)) (now (used .entry))
-        (startLine (started polyphony id)) (startLister (started polyphony id))
-        r (now (used .exit)) (now (page .exit)) ⌝ }
+    ensures { λ r. ⌜ Lists (now (page .entry)) (now (used .entry)) (startLine (started polyphony id))
+        (startLister (started polyphony id)) r (now (used .exit)) (now (page .exit)) ⌝ }
 {
     let o = device::start(polyphony, id);
     let answer = o.answer;
