@@ -171,10 +171,13 @@ on-decode s a b =
     by-both (Few (bit (eqb (s / 16) 9))) (eqb (s / 16) 8) _ _ (omega arith)
     (go (eqb (s / 16) 9))
   where
-    rest : (n : ℕ) → noteOns (message (if eqb (s / 16) 11 then Control (channelOf s) a b else if eqb (s / 16) 12
-        then Program (channelOf s) a else if eqb (s / 16) 14 then Bend (channelOf s) b a else Other)) ≤ n
-    rest n = by-both (Few n) (eqb (s / 16) 11) _ _ (omega arith) (by-both (Few n) (eqb (s / 16) 12) _ _
-        (omega arith) (by-both (Few n) (eqb (s / 16) 14) _ _ (omega arith) (omega arith)))
+    rest : (n : ℕ)
+        → noteOns (message (if eqb (s / 16) 11 then Control (channelOf s) a b
+        else if eqb (s / 16) 12 then Program (channelOf s) a
+        else if eqb (s / 16) 14 then Bend (channelOf s) b a else Other)) ≤ n
+    rest n = by-both (Few n) (eqb (s / 16) 11) _ _ (omega arith)
+        (by-both (Few n) (eqb (s / 16) 12) _ _ (omega arith)
+        (by-both (Few n) (eqb (s / 16) 14) _ _ (omega arith) (omega arith)))
 
     go : (y : Bool)
         → noteOns (message (if y then (if eqb b 0 then NoteOff (channelOf s) a else NoteOn (channelOf s) a)

@@ -93,8 +93,9 @@ module _ (t : List Entry) (p : ℕ) (busy : ℕ → ℕ) where
         let behind : drop (k + 19) page ≡ drop (19 * (n + 1 + 1)) old =
         sym (drop-drop 19 k page) ∙ ap (λ (m : List ℕ). drop 19 m) rest
         ∙ drop-drop 19 k old ∙ ap (λ (m : ℕ). drop m old) next in
-        h ∙ rw (front, behind, r) (ap (λ (m : List ℕ). m ++ drop (19 * (n + 1 + 1)) old) (append-assoc (take 19 old)
-        (rowsTo t p busy n) (row t p busy (n + 1)) ∙ ap (λ (m : List ℕ). take 19 old ++ m) (next-row n)))
+        h ∙ rw (front, behind, r) (ap (λ (m : List ℕ). m ++ drop (19 * (n + 1 + 1)) old)
+        (append-assoc (take 19 old) (rowsTo t p busy n) (row t p busy (n + 1))
+        ∙ ap (λ (m : List ℕ). take 19 old ++ m) (next-row n)))
 
     -- the page keeps its length
     pub rows-room : (n : ℕ) (page : List ℕ) → n ≤ 16 → Rows old n page → length page ≡ length old
