@@ -166,8 +166,9 @@ module _ {M : Type 1} (𝓤 : URA M) (H : Heap 𝓤) (A : Atoms 𝓤) (W : Given
         calls-at ! fm (Sound 𝓤 H A at-mem run) known to-sound
         (and-then ! (load ! (from ! (stop !)) (look ! 5 refl)) (and-then ! (load ! (from ! (stop !)) (look ! 11 refl))
         (and-then ! (load ! (from ! (stop !)) (look ! 9 refl)) (no-more !)))) (λ v.
-        use1 W (later (some (λ (s : Sounded). (‵ ftrue ⊛ ‵ (Z.the-row .own s (v ∷ []))) ⊛ raw
-        (ensured 𝓤 H A sounding.ended (sounding.clauses 𝓤 H A at-mem run) tt (h .instrument, (c, (key, tt))) tt s))))
+        use1 W (later (some (λ (s : Sounded). (‵ ftrue ⊛ ‵ (Z.the-row .own s (v ∷ [])))
+        ⊛ raw (ensured 𝓤 H A sounding.ended (sounding.clauses 𝓤 H A at-mem run)
+        tt (h .instrument, (c, (key, tt))) tt s))))
         (id⊢ 𝓤 _) $ await ! tt $ pick ! (λ s.
         split ! $ move ! (1 ∷ []) $
         use1 W (raw (fact 𝓤 (s ≡ soundedOf (playNoteOn (h .instrument) c key))))

@@ -92,8 +92,9 @@ module _ {M : Type 1} (𝓤 : URA M) (H : Heap 𝓤) (A : Atoms 𝓤)
 
   exits : (r : ℕ) (w : Val) (new : List ℕ) → Says h old r new → length new ≡ length old
       → ent 𝓤 (sep 𝓤 (sep 𝓤 (A .lft κ′ q′) (sem 𝓤 H A ftrue))
-      (sep 𝓤 (A .lft κ q) (sep 𝓤 (A .shr-bor κ (λ s. partAt D.the-row s h b o)) (sep 𝓤
-      (A .res γ (D.the-row .coded .code h)) (sep 𝓤 (sem 𝓤 H A (finally u8 γ′ new)) (sem 𝓤 H A (u8 .own r (w ∷ []))))))))
+      (sep 𝓤 (A .lft κ q) (sep 𝓤 (A .shr-bor κ (λ s. partAt D.the-row s h b o))
+      (sep 𝓤 (A .res γ (D.the-row .coded .code h))
+      (sep 𝓤 (sem 𝓤 H A (finally u8 γ′ new)) (sem 𝓤 H A (u8 .own r (w ∷ []))))))))
       (Post w)
   exits r w new e l =
       qed W ((‵ (flft κ′ q′) ⊛ ‵ ftrue) ∷ ‵ (flft κ q) ∷ ‵ (fshr-bor κ (λ s. partAt D.the-row s h b o))
@@ -107,9 +108,10 @@ module _ {M : Type 1} (𝓤 : URA M) (H : Heap 𝓤) (A : Atoms 𝓤)
   abbrev to-called : Called 𝓤 H A at-mem run .Ghost
   to-called = (((κ′, tt), (q′, tt), tt, (h, (buffer, tt)), (dev-val h ∷ [], (buffer-val ∷ [], tt))), tt)
 
-  goes-called : ent 𝓤
-      (sep 𝓤 (sep 𝓤 (A .lft κ′ q′) (sem 𝓤 H A ftrue)) (sep 𝓤 (sem 𝓤 H A (D.the-row .own h (dev-val h ∷ [])))
-      (sem 𝓤 H A (MutSlice (named 1) κ′ u8 .own buffer (buffer-val ∷ []))))) (Called 𝓤 H A at-mem run .pre to-called)
+  goes-called : ent 𝓤 (sep 𝓤 (sep 𝓤 (A .lft κ′ q′) (sem 𝓤 H A ftrue))
+      (sep 𝓤 (sem 𝓤 H A (D.the-row .own h (dev-val h ∷ [])))
+      (sem 𝓤 H A (MutSlice (named 1) κ′ u8 .own buffer (buffer-val ∷ [])))))
+      (Called 𝓤 H A at-mem run .pre to-called)
   goes-called =
       qed W ((‵ (flft κ′ q′) ⊛ ‵ ftrue) ∷ ‵ (D.the-row .own h (dev-val h ∷ []))
       ∷ ‵ (MutSlice (named 1) κ′ u8 .own buffer (buffer-val ∷ [])) ∷ []) ∵
