@@ -22,7 +22,8 @@ use Rattle.ages.specs.Ages.{oldestFirst, agesOf, newest, otherThan}
 use Rattle.loops.proofs.Padded.{blank}
 use Rattle.ages.proofs.Orders.{order-of}
 use Rattle.generators.specs.declared.Generators.{Generators}
-use Rattle.generators.specs.Generators.{Generator, generator, at, isSounding, isHeld, isSustained, isOn, assigned, silent}
+use Rattle.generators.specs.Generators.{Generator, generator, at, isSounding}
+use Rattle.generators.specs.Generators.{isHeld, isSustained, isOn, assigned, silent}
 use Rattle.releases.specs.declared.Change.{Change}
 use Rattle.releases.specs.declared.Change.the-variants.{ReleaseNote, ReleaseChannel, NoteOff, AllNotesOff, PedalUp}
 use Rattle.releases.specs.Releases.{changes, keyUp, stateAfter, changed}
@@ -59,7 +60,12 @@ order-few s o = let e = order-length s o in let k = total-bits (sounds s) 64 in 
 
 module _ (s : Generators) (o : Ordered s) (g c k : ℕ) (h : g < 64) where
   abbrev next : Generators
-  next = record { state = set (s .state) g 1; channel = set (s .channel) g c; key = set (s .key) g k; ages = newest (s .ages) g }
+  next = record {
+    state = set (s .state) g 1;
+    channel = set (s .channel) g c;
+    key = set (s .key) g k;
+    ages = newest (s .ages) g;
+  }
 
   assigned-next : assigned g c k s ≡ next
   unfolding assigned
@@ -93,7 +99,8 @@ module _ (s : Generators) (o : Ordered s) (g c k : ℕ) (h : g < 64) where
   room : length others < 64
   room =
       let e = length-total 64 others (λ x m. others-once x ∙ out x m) in
-      let t = total-same (λ (x : ℕ). occurs x others) (λ (x : ℕ). bit (if otherThan g x then sounds s x else false)) 64 (λ x m. others-once x) in
+      let t = total-same (λ (x : ℕ). occurs x others)
+      (λ (x : ℕ). bit (if otherThan g x then sounds s x else false)) 64 (λ x m. others-once x) in
       let b = total-hole (λ (x : ℕ). if otherThan g x then sounds s x else false) 64 g h (rw (eq-eqb g g refl)) in
       omega arith
     where
@@ -119,23 +126,31 @@ module _ (s : Generators) (o : Ordered s) (g c k : ℕ) (h : g < 64) where
   pub assigned-new : sounds (assigned g c k s) g ≡ true
   assigned-new = rw assigned-next sounds-new
 
-  pub assigned-both : (x : ℕ) → (if otherThan g x then sounds (assigned g c k s) x else false) ≡ (if otherThan g x then sounds s x else false)
+  pub assigned-both : (x : ℕ)
+      → (if otherThan g x then sounds (assigned g c k s) x else false) ≡ (if otherThan g x then sounds s x else false)
   assigned-both x = rw assigned-next (both x)
 
   pub assigned-ordered : Ordered (assigned g c k s)
   assigned-ordered =
       rw assigned-next
       (record {
-        sized = record { states = length-set (s .state) g 1 ∙ o .sized .states; channels = length-set (s .channel) g c ∙ o .sized .channels; keys = length-set (s .key) g k ∙ o .sized .keys };
+        sized = record {
+          states = length-set (s .state) g 1 ∙ o .sized .states;
+          channels = length-set (s .channel) g c ∙ o .sized .channels;
+          keys = length-set (s .key) g k ∙ o .sized .keys;
+        };
         once = once;
       })
     where
       once : (x : ℕ) → occurs x (order next) ≡ bit (sounds next x)
       once x = rw next-order (occurs-snoc x g others ∙ rw (others-once x) (go (eqb x g) refl))
         where
-          go : (b : Bool) → eqb x g ≡ b → bit (if not b then sounds s x else false) + bit (eqb g x) ≡ bit (sounds next x)
+          go : (b : Bool) → eqb x g ≡ b
+              → bit (if not b then sounds s x else false) + bit (eqb g x) ≡ bit (sounds next x)
           go true e = let q = eqb-true x g e in rw (q, eq-eqb g g refl, sounds-new)
-          go false e = let n = eqb-false x g e in rw (ne-eqb g x (λ (q : g ≡ x). n (sym q)), sounds-other x n) (omega arith)
+          go false e =
+              let n = eqb-false x g e in
+              rw (ne-eqb g x (λ (q : g ≡ x). n (sym q)), sounds-other x n) (omega arith)
 
 -- ---- states change, and what sounds goes on sounding
 
@@ -176,11 +191,13 @@ after-sounds (AllNotesOff pedal c) = up-sounds pedal
 after-sounds (PedalUp c) = refl
 
 -- busy generators that pass go to a state that sounds
-module _ (s : Generators) (o : Ordered s) (t : Generator → Bool) (n : ℕ) (busy : (x : Generator) → t x ≡ true → (isHeld x || isSustained x) ≡ true) (k : eqb n 0 ≡ false) where
+module _ (s : Generators) (o : Ordered s) (t : Generator → Bool) (n : ℕ)
+    (busy : (x : Generator) → t x ≡ true → (isHeld x || isSustained x) ≡ true) (k : eqb n 0 ≡ false) where
   pub restated-sounds : (x : ℕ) → sounds (restated s (o .sized) t n busy) x ≡ sounds s x
   restated-sounds x = ap isSounding (restated-at s (o .sized) t n busy x) ∙ go (t (at s x)) refl
     where
-      go : (b : Bool) → t (at s x) ≡ b → isSounding (if b then generator n (at s x .channel) (at s x .key) else at s x) ≡ sounds s x
+      go : (b : Bool) → t (at s x) ≡ b
+          → isSounding (if b then generator n (at s x .channel) (at s x .key) else at s x) ≡ sounds s x
       go true e = rw k (sym (unidle (at s x) (eqb (at s x .state) 0) refl (busy (at s x) e)))
       go false e = refl
 
@@ -221,7 +238,8 @@ module _ (l : Leaving) (s : Generators) (o : Ordered s) where
       record { sized = silenced-sized; once = once }
     where
       once : (x : ℕ) → occurs x (order (silenced l s)) ≡ bit (sounds (silenced l s) x)
-      once x = rw (silenced-order, silenced-sounds x) (occurs-filter (λ (g : ℕ). not (goes l s g)) x (order s) ∙ go (not (goes l s x)))
+      once x = rw (silenced-order, silenced-sounds x)
+          (occurs-filter (λ (g : ℕ). not (goes l s g)) x (order s) ∙ go (not (goes l s x)))
         where
           go : (b : Bool) → (if b then occurs x (order s) else 0) ≡ bit (if b then sounds s x else false)
           go true = o .once x
@@ -231,7 +249,8 @@ module _ (l : Leaving) (s : Generators) (o : Ordered s) where
 
 pub silent-ordered : Ordered silent
 unfolding silent agesOf count
-silent-ordered = record { sized = record { states = refl; channels = refl; keys = refl }; once = λ g. rw (blank {A = ℕ} 0 64 g) }
+silent-ordered =
+    record { sized = record { states = refl; channels = refl; keys = refl }; once = λ g. rw (blank {A = ℕ} 0 64 g) }
 
 -- each sounding generator stands in the order once, and no other does
 pub ordered : (l : List Act) → Ordered (after l)
@@ -251,29 +270,37 @@ abbrev pub Follows : Generators → List ℕ → Type 0
 Follows s l = order s ≡ filterBy (sounds s) l
 
 -- an assigned generator goes last in both
-pub follows-assigned : (s : Generators) (o : Ordered s) (g c k : ℕ) → g < 64 → (l : List ℕ) → Follows s l → Follows (assigned g c k s) (filterBy (otherThan g) l ++ (g ∷ []))
+pub follows-assigned : (s : Generators) (o : Ordered s) (g c k : ℕ) → g < 64 → (l : List ℕ)
+    → Follows s l → Follows (assigned g c k s) (filterBy (otherThan g) l ++ (g ∷ []))
 unfolding filterBy
 follows-assigned s o g c k h l f =
     let p : ℕ → Bool = λ x. if otherThan g x then sounds s x else false in
     assigned-order s o g c k h
     ∙ ap (λ (m : List ℕ). filterBy (otherThan g) m ++ (g ∷ [])) f
-    ∙ ap (λ (m : List ℕ). m ++ (g ∷ [])) (filter-filter (otherThan g) (sounds s) p l (λ x. swap (sounds s x) (otherThan g x)) ∙ sym (filter-filter (sounds (assigned g c k s)) (otherThan g) p l (assigned-both s o g c k h)))
-    ∙ ap (λ (m : List ℕ). filterBy (sounds (assigned g c k s)) (filterBy (otherThan g) l) ++ m) (sym (rw (assigned-new s o g c k h)))
+    ∙ ap (λ (m : List ℕ). m ++ (g ∷ []))
+    (filter-filter (otherThan g) (sounds s) p l (λ x. swap (sounds s x) (otherThan g x))
+    ∙ sym (filter-filter (sounds (assigned g c k s)) (otherThan g) p l (assigned-both s o g c k h)))
+    ∙ ap (λ (m : List ℕ). filterBy (sounds (assigned g c k s)) (filterBy (otherThan g) l) ++ m)
+    (sym (rw (assigned-new s o g c k h)))
     ∙ sym (filter-append (sounds (assigned g c k s)) (filterBy (otherThan g) l) (g ∷ []))
 
-pub follows-restated : (s : Generators) (o : Ordered s) (t : Generator → Bool) (n : ℕ) (busy : (x : Generator) → t x ≡ true → (isHeld x || isSustained x) ≡ true) (k : eqb n 0 ≡ false)
+pub follows-restated : (s : Generators) (o : Ordered s) (t : Generator → Bool) (n : ℕ)
+    (busy : (x : Generator) → t x ≡ true → (isHeld x || isSustained x) ≡ true) (k : eqb n 0 ≡ false)
     (l : List ℕ) → Follows s l → Follows (restated s (o .sized) t n busy) l
-follows-restated s o t n busy k l f = f ∙ filter-same (sounds s) (sounds (restated s (o .sized) t n busy)) l (λ x. sym (restated-sounds s o t n busy k x))
+follows-restated s o t n busy k l f =
+    f ∙ filter-same (sounds s) (sounds (restated s (o .sized) t n busy)) l (λ x. sym (restated-sounds s o t n busy k x))
 
 pub follows-changed : (h : Change) (s : Generators) (o : Ordered s) (l : List ℕ) → Follows s l → Follows (changed h s) l
 unfolding changed
 follows-changed h s o l f = follows-restated s o (changes h) (stateAfter h) (change-busy h) (after-sounds h) l f
 
-pub follows-silenced : (x : Leaving) (s : Generators) (o : Ordered s) (l : List ℕ) → Follows s l → Follows (silenced x s) l
+pub follows-silenced : (x : Leaving) (s : Generators) (o : Ordered s) (l : List ℕ)
+    → Follows s l → Follows (silenced x s) l
 follows-silenced x s o l f =
     silenced-order x s o
     ∙ ap (filterBy (λ (g : ℕ). not (goes x s g))) f
-    ∙ filter-filter (λ (g : ℕ). not (goes x s g)) (sounds s) (sounds (silenced x s)) l (λ g. swap (sounds s g) (not (goes x s g)) ∙ sym (silenced-sounds x s o g))
+    ∙ filter-filter (λ (g : ℕ). not (goes x s g)) (sounds s) (sounds (silenced x s)) l
+    (λ g. swap (sounds s g) (not (goes x s g)) ∙ sym (silenced-sounds x s o g))
 
 -- where nothing sounds the order is empty
 pub follows-silent : (l : List ℕ) → Follows silent l

@@ -11,7 +11,8 @@ use lib.ListN.{length, getD, set, take, replicate, length-append}
 use lib.Seq.{take-all, take-append-le, length-take-le, set-set, set-out, getD-set-same, getD-set-other}
 use Rattle.loops.specs.Cases.{bit, atMost}
 use Rattle.loops.specs.Passes.{filterBy, padded}
-use Rattle.loops.proofs.Padded.{padded-push, padded-blank, length-padded, padded-take, padded-full, at-most-le, take-at-most, length-at-most, blank}
+use Rattle.loops.proofs.Padded.{padded-push, padded-blank, length-padded, padded-take}
+use Rattle.loops.proofs.Padded.{padded-full, at-most-le, take-at-most, length-at-most, blank}
 use Rattle.loops.proofs.Marks.{room}
 use Rattle.loops.proofs.Compact.{kept, kept-few, kept-count, kept-next}
 use Rattle.loops.proofs.Search.{filter-length, filter-no}
@@ -50,7 +51,8 @@ one-marked g k h = go (eqb h g) refl
     go false t = rw (getD-set-other {A = ℕ} (replicate 256 0) g h 1 0 (eqb-false h g t), blank {A = ℕ} 0 256 h)
 
 -- the end of a loop that keeps those that pass: what was kept is the order of those
-pub kept-end : (p : ℕ → Bool) (a : Ages) (i m : ℕ) (out : List ℕ) → length (a .generator) ≡ 64 → i ≡ atMost 64 (a .count)
+pub kept-end : (p : ℕ → Bool) (a : Ages) (i m : ℕ) (out : List ℕ)
+    → length (a .generator) ≡ 64 → i ≡ atMost 64 (a .count)
     → m ≡ length (kept p 0 64 (a .generator) i) → out ≡ padded 64 0 (kept p 0 64 (a .generator) i)
     → record { count = m; generator = out } ≡ agesOf (filterBy p (oldestFirst a))
 unfolding agesOf
@@ -66,7 +68,8 @@ kept-end p a i m out g e q o =
 -- the array holds what is kept.
 module _ (p : ℕ → Bool) (l : List ℕ) where
   -- a turn
-  pub loose-next : (i m : ℕ) (out : List ℕ) → i < length l → i < 64 → m ≡ length (kept p 0 64 l i) → set out m 0 ≡ padded 64 0 (kept p 0 64 l i)
+  pub loose-next : (i m : ℕ) (out : List ℕ) → i < length l → i < 64
+      → m ≡ length (kept p 0 64 l i) → set out m 0 ≡ padded 64 0 (kept p 0 64 l i)
       → set (set out m (getD l i 0)) (m + bit (p (getD l i 0))) 0 ≡ padded 64 0 (kept p 0 64 l (i + 1))
   loose-next i m out h k e o = go (p (getD l i 0)) refl
     where
@@ -80,11 +83,14 @@ module _ (p : ℕ → Bool) (l : List ℕ) where
           let f : 64 ≤ length m = ltb-false _ _ t in
           set-out (padded 64 0 m) (length m) 0 (omega arith)
 
-      go : (b : Bool) → p (getD l i 0) ≡ b → set (set out m (getD l i 0)) (m + bit b) 0 ≡ padded 64 0 (kept p 0 64 l (i + 1))
+      go : (b : Bool) → p (getD l i 0) ≡ b
+          → set (set out m (getD l i 0)) (m + bit b) 0 ≡ padded 64 0 (kept p 0 64 l (i + 1))
       go true t =
-          let c : m + 1 ≡ length (kept p 0 64 l (i + 1)) = kept-count p 0 64 l i m (padded 64 0 (kept p 0 64 l i)) true h k t e refl in
+          let c : m + 1 ≡ length (kept p 0 64 l (i + 1)) =
+          kept-count p 0 64 l i m (padded 64 0 (kept p 0 64 l i)) true h k t e refl in
           let q : set out m (getD l i 0) ≡ padded 64 0 (kept p 0 64 l (i + 1)) =
-          sym (set-set out m 0 (getD l i 0)) ∙ ap (λ (r : List ℕ). set r m (getD l i 0)) o ∙ kept-next p 0 64 l i m (padded 64 0 (kept p 0 64 l i)) true h k t e refl in
+          sym (set-set out m 0 (getD l i 0)) ∙ ap (λ (r : List ℕ). set r m (getD l i 0)) o
+          ∙ kept-next p 0 64 l i m (padded 64 0 (kept p 0 64 l i)) true h k t e refl in
           rw (q, c) (blank (kept p 0 64 l (i + 1)) (ltb (length (kept p 0 64 l (i + 1))) 64) refl)
       go false t =
           let c : m + 0 ≡ m = omega arith in

@@ -21,7 +21,8 @@ listed-none c [] vs h = refl
 listed-none c (x ∷ l) [] h = refl
 listed-none c (x ∷ l) (v ∷ vs) h = go (eqb x c) refl h (λ k. listed-none c l vs k)
   where
-    go : (b : Bool) → eqb x c ≡ b → bit b + times l c ≡ 0 → (times l c ≡ 0 → listed c (listing l vs) ≡ false) → eqb c x || listed c (listing l vs) ≡ false
+    go : (b : Bool) → eqb x c ≡ b → bit b + times l c ≡ 0
+        → (times l c ≡ 0 → listed c (listing l vs) ≡ false) → eqb c x || listed c (listing l vs) ≡ false
     go true e k ih = absurd (omega arith)
     go false e k ih = rw (ne-eqb c x (λ q. eqb-false x c e (sym q))) (ih (omega arith))
 

@@ -19,7 +19,8 @@ use Rattle.log.specs.Log.{eventOf, linesOf}
 use Rattle.order.specs.Order.{isOrder}
 use Rattle.order.proofs.Once.{order-holds}
 use Rattle.arranging.specs.declared.Written.{Written}
-use Rattle.arranging.specs.Arranging.{fresh, spoils, atLine, fault, lookedAt, records, values, listing, mipMessage, told, refused, writtenBy, message}
+use Rattle.arranging.specs.Arranging.{fresh, spoils, atLine, fault, lookedAt, records, values}
+use Rattle.arranging.specs.Arranging.{listing, mipMessage, told, refused, writtenBy, message}
 use Rattle.arranging.specs.declared.Run.{Run}
 use Rattle.arranging.specs.Run.{heard, joined, begun, finished}
 use Rattle.arranging.proofs.Bytes.{message-length}
@@ -39,7 +40,8 @@ record Whole′ (order log : List ℕ) : Type 0 where
 
 -- which number a log without an order, or with a faulty line, is answered
 abbrev wrote : List ℕ → List ℕ → Bool → Option ℕ → Written
-wrote order log b o = if b then writtenBy order (records fresh (linesOf log)) (told (lookedAt fresh (linesOf log))) o else refused 16 0
+wrote order log b o =
+    if b then writtenBy order (records fresh (linesOf log)) (told (lookedAt fresh (linesOf log))) o else refused 16 0
 
 fault-above : (d : Device) (ls : List (List ℕ)) (n : ℕ) → fault d ls ≡ some n → n ≡ 0 → ⊥
 unfolding fault atLine
@@ -80,7 +82,8 @@ pub given-back : ReaderTakes
 given-back order log h o =
     let w = whole order log h in
     let t = reader-takes order (records fresh (linesOf log)) (w .ordered) o in
-    let n : length order ≡ length (valuesOf order log) = order-holds order (w .ordered) .size ∙ sym (values-16 order (records fresh (linesOf log))) in
+    let n : length order ≡ length (valuesOf order log) =
+    order-holds order (w .ordered) .size ∙ sym (values-16 order (records fresh (linesOf log))) in
     rw (w .bytes) (record {
       answer = t .answer;
       same-order = ap (map (λ (e : Entry). e .channel)) (t .entries) ∙ channels-back order (valuesOf order log) n;
@@ -93,7 +96,8 @@ values-tight order log k h = record { enough = λ j s. never-above order log k j
 pub bytes-38 : (order log : List ℕ) → message order log .number ≡ 0 → length (message order log .bytes) ≡ 38
 bytes-38 order log h =
     let w = whole order log h in
-    ap length (w .bytes) ∙ message-length order (valuesOf order log) (order-holds order (w .ordered) .size) (values-16 order (records fresh (linesOf log)))
+    ap length (w .bytes) ∙ message-length order (valuesOf order log)
+    (order-holds order (w .ordered) .size) (values-16 order (records fresh (linesOf log)))
 
 pub zeros-beside : ZerosBeside
 unfolding message

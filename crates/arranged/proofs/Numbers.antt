@@ -69,7 +69,8 @@ use Rattle.arranged.specs.Laws.{NoOtherNumber}
 played-p : (i : Instrument) (m : Message) → played i m .instrument .polyphony ≡ i .polyphony
 unfolding played playNoteOn playNoteOff playControl instrument.withChannel
 played-p i (message.NoteOn c k) = refl
-played-p i (message.NoteOff c k) = go (instrument.isRhythm i c) (changed (NoteOff (instrument.pedalDown i c) c k) (i .generators))
+played-p i (message.NoteOff c k) =
+    go (instrument.isRhythm i c) (changed (NoteOff (instrument.pedalDown i c) c k) (i .generators))
   where
     go : (b : Bool) (s : Generators) → (if b then i else instrument.withGenerators i s) .polyphony ≡ i .polyphony
     go true s = refl
@@ -103,7 +104,10 @@ polyphony-stays d (Byte b) = heard-p (d .instrument) (d .parser) (split (d .pars
 polyphony-stays d (Report g) = go (leb (d .instrument .polyphony) g) (isIdle (at (d .instrument .generators) g))
   where
     go : (a b : Bool)
-        → (if a then replied (answer.Number 12) (d .instrument) else if b then replied (answer.Number 13) (d .instrument) else replied answer.Done (instrument.withGenerators (d .instrument) (silenced (One g) (d .instrument .generators)))) .instrument .polyphony
+        → (if a then replied (answer.Number 12) (d .instrument)
+        else if b then replied (answer.Number 13) (d .instrument)
+        else replied answer.Done (instrument.withGenerators (d .instrument)
+        (silenced (One g) (d .instrument .generators)))) .instrument .polyphony
         ≡ d .instrument .polyphony
     go true b = refl
     go false true = refl
@@ -115,7 +119,8 @@ abbrev Few : Option ℕ → Type 0
 Few none = Unit {0}
 Few (some n) = n ≤ 11
 
-few-else : (f : Found) (w : Was) (t : Taken) (c k : ℕ) → Few (numberOf (replyOf t c k)) → Few (numberOf (replyOf (orElse f w t) c k))
+few-else : (f : Found) (w : Was) (t : Taken) (c k : ℕ)
+    → Few (numberOf (replyOf t c k)) → Few (numberOf (replyOf (orElse f w t) c k))
 few-else (found.At g) w t c k h = tt
 few-else found.Nothing w t c k h = h
 
@@ -127,17 +132,22 @@ few-choice s t p c d k =
     (few-else (oldest Releasing s) Release theft d k
     (few-else (victim s t p c) Stolen (took.Refused 11) d k (omega arith)))
 
-few-allocated : (s r : Generators) (c k : ℕ) (t : Taken) → Few (numberOf (replyOf t c k)) → Few (numberOf (replyOf (allocated s r c k t .taken) c k))
+few-allocated : (s r : Generators) (c k : ℕ) (t : Taken) → Few (numberOf (replyOf t c k))
+    → Few (numberOf (replyOf (allocated s r c k t .taken) c k))
 few-allocated s r c k (took.Took g w) h = tt
 few-allocated s r c k (took.Refused n) h = h
 
 few-played : (i : Instrument) (m : Message) → Few (numberOf (played i m .answer))
 unfolding played playNoteOn noteOn
-few-played i (message.NoteOn c k) = go (cleared (instrument.isRhythm i c) c k (i .generators)) (isMasked (shareOf (i .table) (i .polyphony) c))
+few-played i (message.NoteOn c k) =
+    go (cleared (instrument.isRhythm i c) c k (i .generators)) (isMasked (shareOf (i .table) (i .polyphony) c))
   where
-    go : (s : Generators) (b : Bool) → Few (numberOf (replyOf ((if b then record { taken = took.Refused 10; generators = i .generators } else allocated (i .generators) s c k (choice s (i .table) (i .polyphony) c)) .taken) c k))
+    go : (s : Generators) (b : Bool)
+        → Few (numberOf (replyOf ((if b then record { taken = took.Refused 10; generators = i .generators }
+        else allocated (i .generators) s c k (choice s (i .table) (i .polyphony) c)) .taken) c k))
     go s true = omega arith
-    go s false = few-allocated (i .generators) s c k (choice s (i .table) (i .polyphony) c) (few-choice s (i .table) (i .polyphony) c c k)
+    go s false = few-allocated (i .generators) s c k
+        (choice s (i .table) (i .polyphony) c) (few-choice s (i .table) (i .polyphony) c c k)
 few-played i (message.NoteOff c k) = tt
 few-played i (message.Control c n v) = tt
 few-played i (message.Program c n) = tt
@@ -147,9 +157,12 @@ few-played i message.Other = tt
 few-faulty : (before : List Entry) (v : ℕ) (l : List Entry) → Few (faulty before v l)
 unfolding faulty
 few-faulty before v [] = tt
-few-faulty before v (e ∷ l) = go (ltb 16 (e .channel)) (listed (e .channel) before) (ltb (e .value) v) (few-faulty (before ++ (e ∷ [])) (e .value) l)
+few-faulty before v (e ∷ l) = go (ltb 16 (e .channel)) (listed (e .channel) before)
+    (ltb (e .value) v) (few-faulty (before ++ (e ∷ [])) (e .value) l)
   where
-    go : (a b c : Bool) → Few (faulty (before ++ (e ∷ [])) (e .value) l) → Few (if a then some 7 else if b then some 8 else if c then some 9 else faulty (before ++ (e ∷ [])) (e .value) l)
+    go : (a b c : Bool) → Few (faulty (before ++ (e ∷ [])) (e .value) l)
+        → Few (if a then some 7 else if b then some 8 else if c then some 9
+        else faulty (before ++ (e ∷ [])) (e .value) l)
     go true b c ih = omega arith
     go false true c ih = omega arith
     go false false true ih = omega arith
@@ -163,7 +176,9 @@ few-judged l = go (ltb 32 (length l)) (eqb (length l) 0 || eqb (length l % 2) 1)
     by none h = tt
     by (some n) h = h
 
-    go : (a b : Bool) → Few (judging.numberOf ((if a then judging.refused 5 else if b then judging.refused 6 else judging.judgedPairs (pairs l)) .verdict))
+    go : (a b : Bool)
+        → Few (judging.numberOf
+        ((if a then judging.refused 5 else if b then judging.refused 6 else judging.judgedPairs (pairs l)) .verdict))
     go true b = omega arith
     go false true = omega arith
     go false false = by (faulty [] 0 (pairs l)) (few-faulty [] 0 (pairs l))
@@ -192,12 +207,16 @@ few-some (some m) n f h = let e : _≡_ {A = ℕ} m n = cc in omega arith
 
 -- ---- the numbers of an event
 
-few-taken : (d : Device) (e : Event) (n : ℕ) → d .instrument .polyphony ≡ 64 → Loggable e → numberOf (taken d e .answer) ≡ some n → (n ≡ 13 → ⊥) → n ≤ 11
+few-taken : (d : Device) (e : Event) (n : ℕ) → d .instrument .polyphony ≡ 64
+    → Loggable e → numberOf (taken d e .answer) ≡ some n → (n ≡ 13 → ⊥) → n ≤ 11
 unfolding taken byteTaken reportTaken reported
 few-taken d (Byte b) n p k h q = few-some _ n (few-heard (d .instrument) (d .parser) (split (d .parser) b .completed)) h
-few-taken d (Report g) n p k h q = go (isIdle (at (d .instrument .generators) g)) (rw (lt-leb (d .instrument .polyphony) g (omega arith)) at h)
+few-taken d (Report g) n p k h q =
+    go (isIdle (at (d .instrument .generators) g)) (rw (lt-leb (d .instrument .polyphony) g (omega arith)) at h)
   where
-    go : (b : Bool) → numberOf ((if b then replied (answer.Number 13) (d .instrument) else replied answer.Done (instrument.withGenerators (d .instrument) (silenced (One g) (d .instrument .generators)))) .answer) ≡ some n → n ≤ 11
+    go : (b : Bool) → numberOf ((if b then replied (answer.Number 13) (d .instrument) else replied answer.Done
+        (instrument.withGenerators (d .instrument) (silenced (One g) (d .instrument .generators)))) .answer)
+        ≡ some n → n ≤ 11
     go true h = let e : _≡_ {A = ℕ} 13 n = cc in absurd (q (sym e))
     go false h = impossible (cc)
 
@@ -206,7 +225,8 @@ unfolding afterLine
 after-64 d none h = h
 after-64 d (some e) h = polyphony-stays d e ∙ h
 
-records-64 : (d : Device) (ls : List (List ℕ)) (j : ℕ) → d .instrument .polyphony ≡ 64 → fresh .instrument .polyphony ≡ 64 → getD (d ∷ records d ls) j fresh .instrument .polyphony ≡ 64
+records-64 : (d : Device) (ls : List (List ℕ)) (j : ℕ) → d .instrument .polyphony ≡ 64
+    → fresh .instrument .polyphony ≡ 64 → getD (d ∷ records d ls) j fresh .instrument .polyphony ≡ 64
 unfolding records
 records-64 d ls zero h f = h
 records-64 d [] (suc j) h f = f
@@ -217,4 +237,5 @@ unfolding started instrument.fresh
 fresh-64 = refl
 
 pub no-other-number : NoOtherNumber
-no-other-number log j e n k h s q = few-taken _ e n (records-64 fresh (linesOf log) j fresh-64 fresh-64) (event-loggable _ e h) s q
+no-other-number log j e n k h s q =
+    few-taken _ e n (records-64 fresh (linesOf log) j fresh-64 fresh-64) (event-loggable _ e h) s q

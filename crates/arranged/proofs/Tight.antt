@@ -36,7 +36,8 @@ module _ {A : Type 0} (f : A → ℕ) (d : A) where
   reached [] h = absurd (omega arith)
   reached (x ∷ l) h = go (ltb (f x) (largest f l)) refl (λ k. reached l k)
     where
-      go : (t : Bool) → ltb (f x) (largest f l) ≡ t → (0 < largest f l → (j : ℕ) × ((j < length l) × (f (getD l j d) ≡ largest f l)))
+      go : (t : Bool) → ltb (f x) (largest f l) ≡ t
+          → (0 < largest f l → (j : ℕ) × ((j < length l) × (f (getD l j d) ≡ largest f l)))
           → (j : ℕ) × ((j < suc (length l)) × (f (getD (x ∷ l) j d) ≡ (if t then largest f l else f x)))
       go true e ih =
           let s = ltb-true (f x) (largest f l) e in
@@ -50,14 +51,16 @@ unfolding values
 value-at order ds k h = at-upTo (valueOf order ds) 0 16 k h
 
 -- no line exceeds a value
-pub never-above : (order log : List ℕ) (k j : ℕ) → k < 16 → j < length (linesOf log) → joint order k (recordAfter log j) ≤ getD (values order (records fresh (linesOf log))) k 0
+pub never-above : (order log : List ℕ) (k j : ℕ) → k < 16 → j < length (linesOf log)
+    → joint order k (recordAfter log j) ≤ getD (values order (records fresh (linesOf log))) k 0
 never-above order log k j h s =
     rw (value-at order (records fresh (linesOf log)) k h)
     (below (joint order k) fresh (records fresh (linesOf log)) j (rw (length-records fresh (linesOf log)) s))
 
 -- a value above 0 made one lower is exceeded after some line
 pub tight : (order log : List ℕ) (k : ℕ) → k < 16 → 0 < getD (values order (records fresh (linesOf log))) k 0
-    → (j : ℕ) × ((j < length (linesOf log)) × (getD (values order (records fresh (linesOf log))) k 0 - 1 < joint order k (recordAfter log j)))
+    → (j : ℕ) × ((j < length (linesOf log))
+    × (getD (values order (records fresh (linesOf log))) k 0 - 1 < joint order k (recordAfter log j)))
 tight order log k h s =
     let ds = records fresh (linesOf log) in
     let e = value-at order ds k h in

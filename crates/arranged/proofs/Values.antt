@@ -27,7 +27,8 @@ among-more true c zero l = omega arith
 among-more true c (suc k) [] = omega arith
 among-more true c (suc k) (x ∷ l) = go (eqb c x) (among-more true c k l)
   where
-    go : (a : Bool) → bit (among c (take k l)) ≤ bit (among c (take (suc k) l)) → bit (a || among c (take k l)) ≤ bit (a || among c (take (suc k) l))
+    go : (a : Bool) → bit (among c (take k l)) ≤ bit (among c (take (suc k) l))
+        → bit (a || among c (take k l)) ≤ bit (a || among c (take (suc k) l))
     go true ih = omega arith
     go false ih = ih
 
@@ -36,12 +37,15 @@ unfolding busyOn
 joint-grows order k d =
     let s = d .instrument .generators in
     let e : suc k + 1 ≡ suc (k + 1) = omega arith in
-    rw e (total-le (λ g. bit (isBusy (at s g) && among (at s g .channel) (take (k + 1) order))) (λ g. bit (isBusy (at s g) && among (at s g .channel) (take (suc (k + 1)) order))) 64
+    rw e (total-le (λ g. bit (isBusy (at s g) && among (at s g .channel) (take (k + 1) order)))
+    (λ g. bit (isBusy (at s g) && among (at s g .channel) (take (suc (k + 1)) order))) 64
     (λ g. among-more (isBusy (at s g)) (at s g .channel) (k + 1) order))
 
 pub joint-64 : (order : List ℕ) (k : ℕ) (d : Device) → joint order k d ≤ 64
 unfolding busyOn
-joint-64 order k d = let s = d .instrument .generators in total-bits (λ g. isBusy (at s g) && among (at s g .channel) (take (k + 1) order)) 64
+joint-64 order k d =
+    let s = d .instrument .generators in
+    total-bits (λ g. isBusy (at s g) && among (at s g .channel) (take (k + 1) order)) 64
 
 -- ---- the largest
 
@@ -86,7 +90,8 @@ length-from f i zero = refl
 length-from f i (suc n) = ap suc (length-from f (suc i) n)
 
 -- values never fall
-pub rising : (f : ℕ → ℕ) → ((k : ℕ) → f k ≤ f (suc k)) → (l : List ℕ) (v i n : ℕ) → v ≤ f i → Rising v (listing l (from f i n))
+pub rising : (f : ℕ → ℕ) → ((k : ℕ) → f k ≤ f (suc k))
+    → (l : List ℕ) (v i n : ℕ) → v ≤ f i → Rising v (listing l (from f i n))
 rising f h [] v i n p = tt
 rising f h (c ∷ l) v i zero p = tt
 rising f h (c ∷ l) v i (suc n) p = (p, rising f h l (f i) (suc i) n (h i))

@@ -21,7 +21,8 @@ use Rattle.arranging.specs.declared.Written.{Written}
 use Rattle.arranging.specs.Arranging.{fresh, records, joint, values, message}
 use Rattle.arranging.specs.Run.{heard, joined, begun, finished}
 use Rattle.arranging.proofs.Witness.{one-to-sixteen, log, in-turn}
-use Rattle.arranged.specs.Laws.{fed, valuesOf, recordAfter, GivenBack, ReaderTakes, Tight, AllTight, ZerosBeside, recordBefore, NoOtherNumber, heardParts, PartsMakeNoDifference}
+use Rattle.arranged.specs.Laws.{fed, valuesOf, recordAfter, GivenBack, ReaderTakes, Tight, AllTight}
+use Rattle.arranged.specs.Laws.{ZerosBeside, recordBefore, NoOtherNumber, heardParts, PartsMakeNoDifference}
 use Rattle.arranged.proofs.Message.{given-back}
 
 -- ---- the words
@@ -66,20 +67,24 @@ pub values-of : (order l : List ℕ) → valuesOf order l ≡ values order (reco
 values-of order l = refl
 
 -- every message and every device, every place of the order, every number, every line, every way to cut
-pub every-device : ReaderTakes → (order l : List ℕ) → message order l .number ≡ 0 → (o : Output) → GivenBack order l (fed o (message order l .bytes))
+pub every-device : ReaderTakes → (order l : List ℕ) → message order l .number ≡ 0
+    → (o : Output) → GivenBack order l (fed o (message order l .bytes))
 every-device h = h
 
 pub every-place : AllTight → (order l : List ℕ) (k : ℕ) → k < 16 → Tight order l k
 every-place h = h
 
-pub every-number : ZerosBeside → (order l : List ℕ) → (message order l .number ≡ 0 → ⊥) → message order l .bytes ≡ replicate 38 0
+pub every-number : ZerosBeside → (order l : List ℕ)
+    → (message order l .number ≡ 0 → ⊥) → message order l .bytes ≡ replicate 38 0
 every-number h = h
 
-pub every-line : NoOtherNumber → (l : List ℕ) (j : ℕ) (e : Event) (n : ℕ) → j < length (linesOf l) → eventOf (getD (linesOf l) j []) ≡ some e
+pub every-line : NoOtherNumber → (l : List ℕ) (j : ℕ) (e : Event) (n : ℕ)
+    → j < length (linesOf l) → eventOf (getD (linesOf l) j []) ≡ some e
     → numberOf (taken (recordBefore l j) e .answer) ≡ some n → (n ≡ 13 → ⊥) → n ≤ 11
 every-line h = h
 
-pub every-cut : PartsMakeNoDifference → (order : List ℕ) (ps : List (List ℕ)) → finished (heardParts (begun order) ps) ≡ message order (joined ps)
+pub every-cut : PartsMakeNoDifference → (order : List ℕ) (ps : List (List ℕ))
+    → finished (heardParts (begun order) ps) ≡ message order (joined ps)
 every-cut h = h
 
 -- ---- from the claims alone

@@ -39,7 +39,8 @@ odd n h = go (eqb (n % 2) 0) refl
     go true e = absurd (h (eqb-true (n % 2) 0 e))
     go false e = let k = eqb-false (n % 2) 0 e in omega arith
 
-pair-even : (l vs : List ℕ) (k : ℕ) → length l ≡ length vs → k < length l → getD (pairBytes (listing l vs)) (2 * k) 0 ≡ getD l k 0 - 1
+pair-even : (l vs : List ℕ) (k : ℕ) → length l ≡ length vs → k < length l
+    → getD (pairBytes (listing l vs)) (2 * k) 0 ≡ getD l k 0 - 1
 unfolding pairBytes
 pair-even [] vs k e h = absurd (omega arith)
 pair-even (c ∷ l) [] k e h = absurd (omega arith)
@@ -48,7 +49,8 @@ pair-even (c ∷ l) (v ∷ vs) (suc k) e h =
     let q : 2 * suc k ≡ suc (suc (2 * k)) = omega arith in
     ap (λ (j : ℕ). getD (pairBytes (listing (c ∷ l) (v ∷ vs))) j 0) q ∙ pair-even l vs k (omega arith) (omega arith)
 
-pair-odd : (l vs : List ℕ) (k : ℕ) → length l ≡ length vs → k < length l → getD (pairBytes (listing l vs)) (2 * k + 1) 0 ≡ getD vs k 0
+pair-odd : (l vs : List ℕ) (k : ℕ) → length l ≡ length vs → k < length l
+    → getD (pairBytes (listing l vs)) (2 * k + 1) 0 ≡ getD vs k 0
 unfolding pairBytes
 pair-odd [] vs k e h = absurd (omega arith)
 pair-odd (c ∷ l) [] k e h = absurd (omega arith)
@@ -83,7 +85,8 @@ module _ (order most : List ℕ) (n : length order ≡ 16) (m : length most ≡ 
   byte-last i h = rw h (sym (getD-at (pairBytes (listing order most)) 0xF7 [] 0 32 size))
 
   -- byte j behind the head
-  behind : (i j : ℕ) → i ≡ 5 + j → j < 32 → getD (mipMessage (listing order most)) i 0 ≡ getD (pairBytes (listing order most)) j 0
+  behind : (i j : ℕ) → i ≡ 5 + j → j < 32
+      → getD (mipMessage (listing order most)) i 0 ≡ getD (pairBytes (listing order most)) j 0
   unfolding mipMessage
   behind i j e h =
       let s = size in
@@ -91,7 +94,8 @@ module _ (order most : List ℕ) (n : length order ≡ 16) (m : length most ≡ 
       ∙ getD-append-add headBytes (pairBytes (listing order most) ++ (0xF7 ∷ [])) j 0
       ∙ List·getD-append (pairBytes (listing order most)) (0xF7 ∷ []) 0 j (omega arith)
 
-  pub byte-channel : (i k : ℕ) → i ≡ 5 + 2 * k → k < 16 → getD order k 0 - 1 ≡ getD (mipMessage (listing order most)) i 0
+  pub byte-channel : (i k : ℕ) → i ≡ 5 + 2 * k → k < 16
+      → getD order k 0 - 1 ≡ getD (mipMessage (listing order most)) i 0
   byte-channel i k e h = sym (behind i (2 * k) e (omega arith) ∙ pair-even order most k (n ∙ sym m) (omega arith))
 
   pub byte-value : (i k : ℕ) → i ≡ 5 + (2 * k + 1) → k < 16 → getD most k 0 ≡ getD (mipMessage (listing order most)) i 0

@@ -47,12 +47,21 @@ none-larger a = go (ltb 0 a) refl
 pub larger-assoc : (a b c : ℕ) → larger (larger a b) c ≡ larger a (larger b c)
 larger-assoc a b c = go (ltb a b) refl (ltb b c) refl (ltb a c) refl
   where
-    go : (p : Bool) → ltb a b ≡ p → (q : Bool) → ltb b c ≡ q → (r : Bool) → ltb a c ≡ r → larger (if p then b else a) c ≡ larger a (if q then c else b)
+    go : (p : Bool) → ltb a b ≡ p → (q : Bool) → ltb b c ≡ q → (r : Bool)
+        → ltb a c ≡ r → larger (if p then b else a) c ≡ larger a (if q then c else b)
     go true e true f true g = rw (f, g)
-    go true e true f false g = let x = ltb-true a b e in let y = ltb-true b c f in let z = ltb-false a c g in absurd (omega arith)
+    go true e true f false g =
+        let x = ltb-true a b e in
+        let y = ltb-true b c f in
+        let z = ltb-false a c g in
+        absurd (omega arith)
     go true e false f r g = rw (f, e)
     go false e true f r g = refl
-    go false e false f true g = let x = ltb-false a b e in let y = ltb-false b c f in let z = ltb-true a c g in absurd (omega arith)
+    go false e false f true g =
+        let x = ltb-false a b e in
+        let y = ltb-false b c f in
+        let z = ltb-true a c g in
+        absurd (omega arith)
     go false e false f false g = rw (e, g)
 
 pub larger-same : (a b : ℕ) → b ≤ a → larger a b ≡ a

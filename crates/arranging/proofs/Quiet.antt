@@ -51,7 +51,8 @@ no h = impossible (cc)
 -- a channel message is never answered none
 played-answers : (i : Instrument) (m : Message) → isQuiet (played i m .answer) ≡ true → played i m .instrument ≡ i
 unfolding played playNoteOn
-played-answers i (message.NoteOn c k) h = go (noteOn (i .generators) (i .table) (i .polyphony) (instrument.isRhythm i c) c k .taken) h
+played-answers i (message.NoteOn c k) h =
+    go (noteOn (i .generators) (i .table) (i .polyphony) (instrument.isRhythm i c) c k .taken) h
   where
     go : {A : Type 0} (t : Taken) → isQuiet (replyOf t c k) ≡ true → A
     go (took.Took g w) h = no h
@@ -62,17 +63,20 @@ played-answers i (message.Program c n) h = no h
 played-answers i (message.Bend c msb lsb) h = no h
 played-answers i message.Other h = no h
 
-judged-answers : (i : Instrument) (v : Verdict) (t : Table) → isQuiet (judgedReply i v t .answer) ≡ true → judgedReply i v t .instrument ≡ i
+judged-answers : (i : Instrument) (v : Verdict) (t : Table)
+    → isQuiet (judgedReply i v t .answer) ≡ true → judgedReply i v t .instrument ≡ i
 judged-answers i Accepted t h = no h
 judged-answers i (Refused n) t h = no h
 
-kind-quiet : (i : Instrument) (l : List ℕ) (k : Kind) → isQuiet (kindReply i l k .answer) ≡ true → kindReply i l k .instrument ≡ i
+kind-quiet : (i : Instrument) (l : List ℕ) (k : Kind)
+    → isQuiet (kindReply i l k .answer) ≡ true → kindReply i l k .instrument ≡ i
 unfolding mipTaken
 kind-quiet i l Mip h = judged-answers i (judged _ .verdict) (judged _ .table) h
 kind-quiet i l SystemOn h = no h
 kind-quiet i l Other h = refl
 
-heard-quiet : (i : Instrument) (p : Parser) (c : Completed) → isQuiet (heard i p c .answer) ≡ true → heard i p c .instrument ≡ i
+heard-quiet : (i : Instrument) (p : Parser) (c : Completed)
+    → isQuiet (heard i p c .answer) ≡ true → heard i p c .instrument ≡ i
 unfolding heard exclusive
 heard-quiet i p completed.Nothing h = refl
 heard-quiet i p completed.Stray h = no h
@@ -85,12 +89,14 @@ unfolding reported
 report-answers i g h = go (leb (i .polyphony) g) (isIdle (at (i .generators) g)) h
   where
     go : {A : Type 0} (a b : Bool)
-        → isQuiet ((if a then replied (answer.Number 12) i else if b then replied (answer.Number 13) i else replied answer.Done (instrument.withGenerators i (silenced (One g) (i .generators)))) .answer) ≡ true → A
+        → isQuiet ((if a then replied (answer.Number 12) i else if b then replied (answer.Number 13) i
+        else replied answer.Done (instrument.withGenerators i (silenced (One g) (i .generators)))) .answer) ≡ true → A
     go true b h = no h
     go false true h = no h
     go false false h = no h
 
-pub quiet-same : (d : Device) (e : Event) → isQuiet (taken d e .answer) ≡ true → taken d e .device .instrument ≡ d .instrument
+pub quiet-same : (d : Device) (e : Event) → isQuiet (taken d e .answer) ≡ true
+    → taken d e .device .instrument ≡ d .instrument
 unfolding taken byteTaken reportTaken
 quiet-same d (Byte b) h = heard-quiet (d .instrument) (d .parser) (split (d .parser) b .completed) h
 quiet-same d (Report g) h = report-answers (d .instrument) g h
@@ -98,4 +104,5 @@ quiet-same d (Report g) h = report-answers (d .instrument) g h
 -- nothing is busy in a fresh record
 pub fresh-idle : (l : List ℕ) → busyOn l (fresh .instrument .generators) ≡ 0
 unfolding busyOn started instrument.fresh silent
-fresh-idle l = total-same (λ (g : ℕ). bit (isBusy (at silent g) && among (at silent g .channel) l)) (λ (g : ℕ). 0) 64 (λ g h. rw (padded.blank {A = ℕ} 0 64 g)) ∙ total-zero 64
+fresh-idle l = total-same (λ (g : ℕ). bit (isBusy (at silent g) && among (at silent g .channel) l))
+    (λ (g : ℕ). 0) 64 (λ g h. rw (padded.blank {A = ℕ} 0 64 g)) ∙ total-zero 64

@@ -21,7 +21,8 @@ module _ (p : ℕ → Bool) (n : ℕ) where
       let a = at-upTo (λ (g : ℕ). g) 0 n g h in
       rw a at (first-yes p 0 (numbers n) g r (omega arith) e (rw a t))
 
-  pub number-no : (g : ℕ) (r : Option ℕ) → g < n → firstOf p (drop g (numbers n)) ≡ r → p g ≡ false → firstOf p (drop (g + 1) (numbers n)) ≡ r
+  pub number-no : (g : ℕ) (r : Option ℕ) → g < n → firstOf p (drop g (numbers n)) ≡ r
+      → p g ≡ false → firstOf p (drop (g + 1) (numbers n)) ≡ r
   number-no g r h e t =
       let l = length-upTo (λ (g : ℕ). g) n in
       first-no p 0 (numbers n) g r (omega arith) e (rw (at-upTo (λ (g : ℕ). g) 0 n g h) t)

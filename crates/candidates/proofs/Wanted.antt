@@ -32,8 +32,10 @@ unfolding wanted
 idle-unwanted Releasing y key = refl
 idle-unwanted (BusyOn c) y key = refl
 
-pub wanted-none : (w : Want) (state channel : List ℕ) → length state ≡ 64 → (g : ℕ) → 64 ≤ g → wantedAt w state channel g ≡ false
-wanted-none w state channel e g h = rw (List·getD-eq-default state 0 {n = g} (omega arith)) (idle-unwanted w (getD channel g 0) 0)
+pub wanted-none : (w : Want) (state channel : List ℕ) → length state ≡ 64
+    → (g : ℕ) → 64 ≤ g → wantedAt w state channel g ≡ false
+wanted-none w state channel e g h =
+    rw (List·getD-eq-default state 0 {n = g} (omega arith)) (idle-unwanted w (getD channel g 0) 0)
 
 -- ---- the search along the order of age, by marks
 
@@ -79,6 +81,8 @@ module _ (w : Want) (state channel keys : List ℕ) (e : length state ≡ 64) wh
       go g false t = wanted-none w state channel e g (ltb-false g 64 t)
 
   -- with the marks of those that are wanted, the first with a mark is the first that is wanted
-  pub found-marked : (marks : List ℕ) → marks ≡ marksOf (wantedAt w state channel) → (l : List ℕ) → firstOf (λ g. not (eqb (getD marks g 0) 0)) l ≡ firstOf is-wanted l
+  pub found-marked : (marks : List ℕ) → marks ≡ marksOf (wantedAt w state channel)
+      → (l : List ℕ) → firstOf (λ g. not (eqb (getD marks g 0) 0)) l ≡ firstOf is-wanted l
   found-marked marks m l =
-      first-same _ is-wanted (λ g. rw m (a-mark (wantedAt w state channel) 64 (wanted-none w state channel e) (omega arith) g) ∙ sym (key-free g)) l
+      first-same _ is-wanted (λ g. rw m
+      (a-mark (wantedAt w state channel) 64 (wanted-none w state channel e) (omega arith) g) ∙ sym (key-free g)) l

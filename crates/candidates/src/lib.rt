@@ -40,7 +40,8 @@ fn is_wanted(want: Want, state: u8, channel: u8) -> bool
 }
 
 fn how_many(state: [u8; 64], channel: [u8; 64], want: Want) -> u8
-    ensures { λ r. ⌜ (r ≡ total (λ g. bit (wanted want (generator (getD state g 0) (getD channel g 0) 0))) 64) × (r ≤ 64) ⌝ }
+    ensures { λ r. ⌜ (r ≡ total (λ g. bit (wanted want (generator (getD state g 0) (getD channel g 0) 0))) 64)
+        × (r ≤ 64) ⌝ }
 {
     let mut n: u8 = 0;
     let mut i: usize = 0;

@@ -2,7 +2,8 @@
 // Masks are no matter here: a masked channel's controllers are stored like any other's (R6.14). What becomes of the
 // notes is in crate other_messages. Assumes nothing.
 ghost use mathlib.Core.Path.{_≡_};
-ghost use Rattle.controllers.specs.Controllers.{dataEntry, stored, reset, controlled, liftsPedal, silencesAll, endsAll};
+ghost use Rattle.controllers.specs.Controllers.{dataEntry, stored, reset, controlled};
+ghost use Rattle.controllers.specs.Controllers.{liftsPedal, silencesAll, endsAll};
 use channels::Channel;
 
 // The sensitivity after Data Entry MSB: bend sensitivity is the only registered parameter here. Its LSB, controller 38,

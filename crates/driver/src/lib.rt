@@ -13,7 +13,8 @@ use splitter::Parser;
 
 // A note-on with a velocity above 0 touches the generators alone: the rest of the record stays where it is.
 fn note(d: &mut Device, channel: u8, key: u8) -> Answer
-    ensures { λ r. ⌜ (r ≡ noteHeard (now (d .entry)) channel key .answer) × (now (d .exit) ≡ noteHeard (now (d .entry)) channel key .device) ⌝ }
+    ensures { λ r. ⌜ (r ≡ noteHeard (now (d .entry)) channel key .answer)
+        × (now (d .exit) ≡ noteHeard (now (d .entry)) channel key .device) ⌝ }
 {
     let s = playing::sound(d.instrument, channel, key);
     d.instrument.generators = s.generators;
@@ -31,7 +32,8 @@ fn act(d: &mut Device, p: Parser, c: Completed) -> Answer
 
 // A byte b that completed c, which is not quiet.
 fn hear(d: &mut Device, b: u8, c: Completed) -> Answer
-    ensures { λ r. ⌜ (r ≡ heardBy (now (d .entry)) b c .answer) × (now (d .exit) ≡ heardBy (now (d .entry)) b c .device) ⌝ }
+    ensures { λ r. ⌜ (r ≡ heardBy (now (d .entry)) b c .answer)
+        × (now (d .exit) ≡ heardBy (now (d .entry)) b c .device) ⌝ }
 {
     let p = d.parser;
     d.parser = p.after(b);
@@ -44,7 +46,8 @@ fn hear(d: &mut Device, b: u8, c: Completed) -> Answer
 
 // A MIDI byte. Most complete nothing and touch the parser alone.
 pub fn byte(d: &mut Device, b: u8) -> Answer
-    ensures { λ r. ⌜ (r ≡ taken (now (d .entry)) (Byte b) .answer) × (now (d .exit) ≡ taken (now (d .entry)) (Byte b) .device) ⌝ }
+    ensures { λ r. ⌜ (r ≡ taken (now (d .entry)) (Byte b) .answer)
+        × (now (d .exit) ≡ taken (now (d .entry)) (Byte b) .device) ⌝ }
 {
     let c = d.parser.completes(b);
     if touched::is_quiet(c) {

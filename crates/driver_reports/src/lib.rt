@@ -8,7 +8,8 @@ use playing::Answer;
 
 // Generator g has rung out (R7.1).
 pub fn report(d: &mut Device, g: u8) -> Answer
-    ensures { λ r. ⌜ (r ≡ taken (now (d .entry)) (Report g) .answer) × (now (d .exit) ≡ taken (now (d .entry)) (Report g) .device) ⌝ }
+    ensures { λ r. ⌜ (r ≡ taken (now (d .entry)) (Report g) .answer)
+        × (now (d .exit) ≡ taken (now (d .entry)) (Report g) .device) ⌝ }
 {
     let reply = reports::ended(d.instrument, g);
     d.instrument = reply.instrument;

@@ -32,19 +32,22 @@ kept-digit n d = go (ltb n 99999999) refl
         rw (le-ltb (10 * 99999999 + d) 99999999 (omega arith), le-ltb (10 * n + d) 99999999 (omega arith))
 
 module _ (ended : Line → List ℕ) (r k s : ℕ) where
-  pub from-digit : (d : Bool) (n x : ℕ) (ys : List ℕ) → isDigit x ≡ true → from ended (at r d k s n) (x ∷ ys) ≡ from ended (at r true k s (10 * n + (x - 48))) ys
+  pub from-digit : (d : Bool) (n x : ℕ) (ys : List ℕ) → isDigit x ≡ true
+      → from ended (at r d k s n) (x ∷ ys) ≡ from ended (at r true k s (10 * n + (x - 48))) ys
   unfolding at read afterDigit
   from-digit d n x ys e =
       let h = leb-true 48 x (both (leb 48 x) (leb x 57) e .0) in
       from-byte ended (at r d k s n) x ys (ne-eqb x 10 (λ q. omega arith)) ∙ rw (e, kept-digit n (x - 48))
 
-  pub from-number : (d : Bool) (n : ℕ) (xs ys : List ℕ) → numberFrom d xs ≡ true → from ended (at r d k s n) (xs ++ ys) ≡ from ended (at r true k s (spelled n xs)) ys
+  pub from-number : (d : Bool) (n : ℕ) (xs ys : List ℕ) → numberFrom d xs ≡ true
+      → from ended (at r d k s n) (xs ++ ys) ≡ from ended (at r true k s (spelled n xs)) ys
   unfolding numberFrom spelled
   from-number d n [] ys e = rw e
   from-number d n (x ∷ xs) ys e =
       let h = both (isDigit x) (numberFrom true xs) e in
       from-digit d n x (xs ++ ys) (h .0) ∙ from-number true (10 * n + (x - 48)) xs ys (h .1)
 
-  pub from-comma : (n : ℕ) (ys : List ℕ) → r < 2 → from ended (at r true k s n) (44 ∷ ys) ≡ from ended (at (r + 1) false s (kept n) 0) ys
+  pub from-comma : (n : ℕ) (ys : List ℕ) → r < 2
+      → from ended (at r true k s n) (44 ∷ ys) ≡ from ended (at (r + 1) false s (kept n) 0) ys
   unfolding at read afterComma
   from-comma n ys h = from-byte ended (at r true k s n) 44 ys refl ∙ rw (lt-ltb r 2 h)

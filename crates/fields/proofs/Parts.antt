@@ -18,7 +18,8 @@ unfolding afterAll
 after-parts c [] ys = refl
 after-parts c (x ∷ xs) ys = after-parts (after c x) xs ys
 
-pub next-after : (c : Line) (bs : List ℕ) (i : ℕ) → i < length bs → afterAll c (take (i + 1) bs) ≡ after (afterAll c (take i bs)) (getD bs i 0)
+pub next-after : (c : Line) (bs : List ℕ) (i : ℕ) → i < length bs
+    → afterAll c (take (i + 1) bs) ≡ after (afterAll c (take i bs)) (getD bs i 0)
 unfolding afterAll
 next-after c bs i h = rw (add-one i, take-suc bs i 0 h) (after-parts c (take i bs) (getD bs i 0 ∷ []))
 
@@ -27,25 +28,31 @@ unfoldable pub from : (Line → List ℕ) → Line → List ℕ → List ℕ
 from ended c bs = answersBy ended c bs ++ endAnswerBy ended (afterAll c bs)
 
 module _ (ended : Line → List ℕ) where
-  pub answers-parts : (c : Line) (xs ys : List ℕ) → answersBy ended c (xs ++ ys) ≡ answersBy ended c xs ++ answersBy ended (afterAll c xs) ys
+  pub answers-parts : (c : Line) (xs ys : List ℕ)
+      → answersBy ended c (xs ++ ys) ≡ answersBy ended c xs ++ answersBy ended (afterAll c xs) ys
   unfolding answersBy afterAll
   answers-parts c [] ys = refl
   answers-parts c (x ∷ xs) ys =
       rw (answers-parts (after c x) xs ys)
-      (sym (append-assoc (answerBy ended c x) (answersBy ended (after c x) xs) (answersBy ended (afterAll (after c x) xs) ys)))
+      (sym (append-assoc (answerBy ended c x) (answersBy ended (after c x) xs)
+      (answersBy ended (afterAll (after c x) xs) ys)))
 
   pub next-answered : (c : Line) (bs : List ℕ) (i : ℕ) → i < length bs
-      → answersBy ended c (take (i + 1) bs) ≡ answersBy ended c (take i bs) ++ answerBy ended (afterAll c (take i bs)) (getD bs i 0)
+      → answersBy ended c (take (i + 1) bs)
+      ≡ answersBy ended c (take i bs) ++ answerBy ended (afterAll c (take i bs)) (getD bs i 0)
   unfolding answersBy
   next-answered c bs i h =
       rw (add-one i, take-suc bs i 0 h)
-      (answers-parts c (take i bs) (getD bs i 0 ∷ []) ∙ rw (append-nil (answerBy ended (afterAll c (take i bs)) (getD bs i 0))))
+      (answers-parts c (take i bs) (getD bs i 0 ∷ [])
+      ∙ rw (append-nil (answerBy ended (afterAll c (take i bs)) (getD bs i 0))))
 
-  pub from-parts : (c : Line) (xs ys : List ℕ) → from ended c (xs ++ ys) ≡ answersBy ended c xs ++ from ended (afterAll c xs) ys
+  pub from-parts : (c : Line) (xs ys : List ℕ)
+      → from ended c (xs ++ ys) ≡ answersBy ended c xs ++ from ended (afterAll c xs) ys
   unfolding from
   from-parts c xs ys =
       rw (answers-parts c xs ys, after-parts c xs ys)
-      (append-assoc (answersBy ended c xs) (answersBy ended (afterAll c xs) ys) (endAnswerBy ended (afterAll (afterAll c xs) ys)))
+      (append-assoc (answersBy ended c xs) (answersBy ended (afterAll c xs) ys)
+      (endAnswerBy ended (afterAll (afterAll c xs) ys)))
 
   pub from-byte : (c : Line) (b : ℕ) (bs : List ℕ) → eqb b 10 ≡ false → from ended c (b ∷ bs) ≡ from ended (read c b) bs
   unfolding from answersBy afterAll answerBy after

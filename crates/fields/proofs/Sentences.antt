@@ -11,7 +11,8 @@ use borrow.Author.Tests.{ne-eqb, eqb-true, leb-true}
 use Rattle.loops.specs.Cases.{if_then_else_, bit}
 use Rattle.loops.specs.Passes.{count}
 use Rattle.fields.specs.declared.Line.{Line}
-use Rattle.fields.specs.Line.{newLine, malformed, isDigit, afterDigit, isParted, afterComma, read, after, afterAll, isEmpty}
+use Rattle.fields.specs.Line.{newLine, malformed, isDigit, afterDigit, isParted}
+use Rattle.fields.specs.Line.{afterComma, read, after, afterAll, isEmpty}
 use Rattle.fields.specs.Answers.{answerBy, answersBy, endAnswerBy, allAnswersBy}
 use Rattle.fields.specs.Fields.{isField, areFields, lineEnds, behind, numberFrom}
 use Rattle.fields.proofs.Parts.{from, from-parts, from-byte, from-end, from-last, started}
@@ -22,10 +23,12 @@ use Rattle.fields.proofs.Written.{ends-parts}
 -- ---- a line
 
 -- a line is answered by its fields
-pub line-told : (ended : Line → List ℕ) (commas : ℕ) (by : ℕ → ℕ → ℕ → List ℕ) (other : List ℕ) (reads : Reads ended commas by other) (f : List ℕ) (gs : List (List ℕ))
+pub line-told : (ended : Line → List ℕ) (commas : ℕ) (by : ℕ → ℕ → ℕ → List ℕ)
+    (other : List ℕ) (reads : Reads ended commas by other) (f : List ℕ) (gs : List (List ℕ))
     → isField f ≡ true → areFields gs ≡ true → allAnswersBy ended (f ++ behind gs) ≡ told commas by other 0 0 0 f gs
 unfolding at
-line-told ended commas by other reads f gs e es = started ended (f ++ behind gs) ∙ fields-told ended commas by other reads 0 0 0 f gs e es
+line-told ended commas by other reads f gs e es =
+    started ended (f ++ behind gs) ∙ fields-told ended commas by other reads 0 0 0 f gs e es
 
 -- every line has fields
 pub record Cut (xs : List ℕ) : Type 0 where
@@ -45,8 +48,20 @@ cut [] e = record { first = []; others = []; is = refl; first-field = refl; othe
 cut (x ∷ xs) e = let p = no-end (eqb x 10) (lineEnds xs) e in go (eqb x 44) refl (p .0) (cut xs (p .1))
   where
     go : (b : Bool) → eqb x 44 ≡ b → eqb x 10 ≡ false → Cut xs → Cut (x ∷ xs)
-    go true q n c = record { first = []; others = c .first ∷ c .others; is = rw (eqb-true x 44 q, c .is); first-field = refl; other-fields = rw (c .first-field) (c .other-fields) }
-    go false q n c = record { first = x ∷ c .first; others = c .others; is = rw (c .is); first-field = rw (q, n) (c .first-field); other-fields = c .other-fields }
+    go true q n c = record {
+      first = [];
+      others = c .first ∷ c .others;
+      is = rw (eqb-true x 44 q, c .is);
+      first-field = refl;
+      other-fields = rw (c .first-field) (c .other-fields);
+    }
+    go false q n c = record {
+      first = x ∷ c .first;
+      others = c .others;
+      is = rw (c .is);
+      first-field = rw (q, n) (c .first-field);
+      other-fields = c .other-fields;
+    }
 
 -- a number is a field
 pub number-field : (d : Bool) (xs : List ℕ) → numberFrom d xs ≡ true → isField xs ≡ true
@@ -70,20 +85,33 @@ not-empty c b = go (isDigit b) (isParted c b)
 
 module _ (ended : Line → List ℕ) where
   -- a line is answered whatever stood before it and whatever comes behind it
-  pub lines-apart : (xs ys : List ℕ) → allAnswersBy ended (xs ++ 10 ∷ ys) ≡ allAnswersBy ended (xs ++ 10 ∷ []) ++ allAnswersBy ended ys
+  pub lines-apart : (xs ys : List ℕ)
+      → allAnswersBy ended (xs ++ 10 ∷ ys) ≡ allAnswersBy ended (xs ++ 10 ∷ []) ++ allAnswersBy ended ys
   lines-apart xs ys =
       let c = afterAll newLine xs in
-      let a : allAnswersBy ended (xs ++ 10 ∷ ys) ≡ answersBy ended newLine xs ++ (ended c ++ allAnswersBy ended ys) = started ended (xs ++ 10 ∷ ys) ∙ from-parts ended newLine xs (10 ∷ ys) ∙ rw (from-end ended c ys) in
-      let b : allAnswersBy ended (xs ++ 10 ∷ []) ≡ answersBy ended newLine xs ++ ended c = started ended (xs ++ 10 ∷ []) ∙ from-parts ended newLine xs (10 ∷ []) ∙ rw (from-last ended c) in
+      let a : allAnswersBy ended (xs ++ 10 ∷ ys) ≡ answersBy ended newLine xs ++ (ended c ++ allAnswersBy ended ys) =
+      started ended (xs ++ 10 ∷ ys) ∙ from-parts ended newLine xs (10 ∷ ys) ∙ rw (from-end ended c ys) in
+      let b : allAnswersBy ended (xs ++ 10 ∷ []) ≡ answersBy ended newLine xs ++ ended c =
+      started ended (xs ++ 10 ∷ []) ∙ from-parts ended newLine xs (10 ∷ []) ∙ rw (from-last ended c) in
       rw (a, b) (sym (append-assoc (answersBy ended newLine xs) (ended c) (allAnswersBy ended ys)))
 
   -- a last line without its 0AH is answered as with it
-  pub last-line : (xs : List ℕ) (b : ℕ) → eqb b 10 ≡ false → allAnswersBy ended (xs ++ b ∷ []) ≡ allAnswersBy ended (xs ++ b ∷ 10 ∷ [])
+  pub last-line : (xs : List ℕ) (b : ℕ) → eqb b 10 ≡ false
+      → allAnswersBy ended (xs ++ b ∷ []) ≡ allAnswersBy ended (xs ++ b ∷ 10 ∷ [])
   unfolding from answersBy afterAll endAnswerBy
   last-line xs b e =
       let c = afterAll newLine xs in
       let a : from ended (read c b) [] ≡ ended (read c b) = rw (not-empty c b) in
-      rw (started ended (xs ++ b ∷ []), started ended (xs ++ b ∷ 10 ∷ []), from-parts ended newLine xs (b ∷ []), from-parts ended newLine xs (b ∷ 10 ∷ []), from-byte ended c b [] e, from-byte ended c b (10 ∷ []) e, a, from-last ended (read c b))
+      rw (
+        started ended (xs ++ b ∷ []),
+        started ended (xs ++ b ∷ 10 ∷ []),
+        from-parts ended newLine xs (b ∷ []),
+        from-parts ended newLine xs (b ∷ 10 ∷ []),
+        from-byte ended c b [] e,
+        from-byte ended c b (10 ∷ []) e,
+        a,
+        from-last ended (read c b),
+      )
 
   -- as many lines come out as go in, where an answer has one 0AH
   module _ (one : (c : Line) → lineEnds (ended c) ≡ 1) where
@@ -95,4 +123,5 @@ module _ (ended : Line → List ℕ) where
     pub line-for-line : (c : Line) (bs : List ℕ) → lineEnds (answersBy ended c bs) ≡ lineEnds bs
     unfolding count answersBy answerBy
     line-for-line c [] = refl
-    line-for-line c (b ∷ bs) = ends-parts (answerBy ended c b) (answersBy ended (after c b) bs) ∙ rw (ends-byte c (eqb b 10), line-for-line (after c b) bs)
+    line-for-line c (b ∷ bs) = ends-parts (answerBy ended c b) (answersBy ended (after c b) bs)
+        ∙ rw (ends-byte c (eqb b 10), line-for-line (after c b) bs)

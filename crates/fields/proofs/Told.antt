@@ -19,7 +19,8 @@ use Rattle.fields.proofs.Numbers.{both, at, from-digit, from-number, fr
 -- how a program answers lines of so many commas: by three numbers, of which it may pass over the first, or by one text
 pub record Reads (ended : Line → List ℕ) (commas : ℕ) (by : ℕ → ℕ → ℕ → List ℕ) (other : List ℕ) : Type 0 where
   pub few : commas < 3
-  pub is : (c : Line) → ended c ≡ (if c .digit && eqb (c .commas) commas then by (c .first) (c .previous) (c .last) else other)
+  pub is : (c : Line)
+      → ended c ≡ (if c .digit && eqb (c .commas) commas then by (c .first) (c .previous) (c .last) else other)
   pub cut : (k s n : ℕ) → by (kept k) (kept s) (kept n) ≡ by k s n
 
 -- a line that no byte makes numbers any more is malformed
@@ -27,7 +28,8 @@ lost-on : (c : Line) (b : ℕ) → 3 ≤ c .commas → 3 ≤ read c b .commas
 unfolding read afterDigit
 lost-on c b h = rw (le-ltb (c .commas) 2 (omega arith)) (go (isDigit b) (eqb b 44) (c .digit))
   where
-    go : (x y z : Bool) → 3 ≤ (if x then afterDigit c (b - 48) else (if y && (z && false) then afterComma c else malformed)) .commas
+    go : (x y z : Bool)
+        → 3 ≤ (if x then afterDigit c (b - 48) else (if y && (z && false) then afterComma c else malformed)) .commas
     go true y z = h
     go false false z = omega arith
     go false true false = omega arith
@@ -60,9 +62,12 @@ module _ (commas : ℕ) (by : ℕ → ℕ → ℕ → List ℕ) (other : List �
   told r k s f [] = if isNumber f && eqb r commas then by k s (spelled 0 f) else other
   told r k s f (g ∷ gs) = if isNumber f && ltb r 2 then told (r + 1) s (spelled 0 f) g gs else other
 
-module _ (ended : Line → List ℕ) (commas : ℕ) (by : ℕ → ℕ → ℕ → List ℕ) (other : List ℕ) (reads : Reads ended commas by other) where
+module _ (ended : Line → List ℕ) (commas : ℕ) (by : ℕ → ℕ → ℕ → List ℕ)
+    (other : List ℕ) (reads : Reads ended commas by other) where
   lost-end : (c : Line) → 3 ≤ c .commas → ended c ≡ other
-  lost-end c h = let f = reads .few in reads .is c ∙ rw (ne-eqb (c .commas) commas (λ e. omega arith)) (never (c .digit) _ _)
+  lost-end c h =
+      let f = reads .few in
+      reads .is c ∙ rw (ne-eqb (c .commas) commas (λ e. omega arith)) (never (c .digit) _ _)
 
   -- every line that is lost and goes on so
   abbrev Lost : List ℕ → Type 0
@@ -79,36 +84,46 @@ module _ (ended : Line → List ℕ) (commas : ℕ) (by : ℕ → ℕ → ℕ �
   lost-behind [] e = λ c h. from-last ended c ∙ lost-end c h
   lost-behind (g ∷ gs) e = λ c h.
       let p = both (isField g) (areFields gs) e in
-      from-byte ended c 44 (g ++ behind gs) refl ∙ lost-field g (behind gs) (p .0) (lost-behind gs (p .1)) (read c 44) (lost-on c 44 h)
+      from-byte ended c 44 (g ++ behind gs) refl
+      ∙ lost-field g (behind gs) (p .0) (lost-behind gs (p .1)) (read c 44) (lost-on c 44 h)
 
   -- a field that is no number makes its line malformed: at its first byte that is no digit, or, if it is empty, at its
   -- end
-  empty-field : (r k s n : ℕ) (gs : List (List ℕ)) → areFields gs ≡ true → from ended (at r false k s n) (behind gs) ≡ other
+  empty-field : (r k s n : ℕ) (gs : List (List ℕ)) → areFields gs ≡ true
+      → from ended (at r false k s n) (behind gs) ≡ other
   unfolding at read areFields
   empty-field r k s n [] e = from-last ended (at r false k s n) ∙ reads .is (at r false k s n)
   empty-field r k s n (g ∷ gs) e =
       let p = both (isField g) (areFields gs) e in
-      from-byte ended (at r false k s n) 44 (g ++ behind gs) refl ∙ lost-field g (behind gs) (p .0) (lost-behind gs (p .1)) malformed (lit≤ tt)
+      from-byte ended (at r false k s n) 44 (g ++ behind gs) refl
+      ∙ lost-field g (behind gs) (p .0) (lost-behind gs (p .1)) malformed (lit≤ tt)
 
-  other-byte : (c : Line) (x : ℕ) (f : List ℕ) (gs : List (List ℕ)) → isField (x ∷ f) ≡ true → areFields gs ≡ true → isDigit x ≡ false
+  other-byte : (c : Line) (x : ℕ) (f : List ℕ) (gs : List (List ℕ))
+      → isField (x ∷ f) ≡ true → areFields gs ≡ true → isDigit x ≡ false
       → from ended c (x ∷ (f ++ behind gs)) ≡ other
   unfolding read
   other-byte c x f gs e es z =
       let p = first x f e in
-      from-byte ended c x (f ++ behind gs) (p .end) ∙ rw (z, p .comma) (lost-field f (behind gs) (p .others) (lost-behind gs es) malformed (lit≤ tt))
+      from-byte ended c x (f ++ behind gs) (p .end)
+      ∙ rw (z, p .comma) (lost-field f (behind gs) (p .others) (lost-behind gs es) malformed (lit≤ tt))
 
-  no-number : (r k s : ℕ) (d : Bool) (n : ℕ) (f : List ℕ) (gs : List (List ℕ)) → isField f ≡ true → areFields gs ≡ true → numberFrom d f ≡ false
+  no-number : (r k s : ℕ) (d : Bool) (n : ℕ) (f : List ℕ) (gs : List (List ℕ))
+      → isField f ≡ true → areFields gs ≡ true → numberFrom d f ≡ false
       → from ended (at r d k s n) (f ++ behind gs) ≡ other
   unfolding numberFrom
   no-number r k s d n [] gs e es z = rw z (empty-field r k s n gs es)
-  no-number r k s d n (x ∷ f) gs e es z = go (isDigit x) refl z (λ y. no-number r k s true (10 * n + (x - 48)) f gs (first x f e .others) es y)
+  no-number r k s d n (x ∷ f) gs e es z =
+      go (isDigit x) refl z (λ y. no-number r k s true (10 * n + (x - 48)) f gs (first x f e .others) es y)
     where
-      go : (b : Bool) → isDigit x ≡ b → (b && numberFrom true f) ≡ false → (numberFrom true f ≡ false → from ended (at r true k s (10 * n + (x - 48))) (f ++ behind gs) ≡ other)
+      go : (b : Bool) → isDigit x ≡ b → (b && numberFrom true f) ≡ false
+          → (numberFrom true f ≡ false → from ended (at r true k s (10 * n + (x - 48))) (f ++ behind gs) ≡ other)
           → from ended (at r d k s n) (x ∷ (f ++ behind gs)) ≡ other
       go true b y ih = from-digit ended r k s d n x (f ++ behind gs) b ∙ ih y
       go false b y ih = other-byte (at r d k s n) x f gs e es b
 
-  last-field : (r k s : ℕ) (f : List ℕ) → isNumber f ≡ true → from ended (at r false (kept k) (kept s) 0) (f ++ 10 ∷ []) ≡ (if eqb r commas then by k s (spelled 0 f) else other)
+  last-field : (r k s : ℕ) (f : List ℕ) → isNumber f ≡ true
+      → from ended (at r false (kept k) (kept s) 0) (f ++ 10 ∷ [])
+      ≡ (if eqb r commas then by k s (spelled 0 f) else other)
   unfolding at
   last-field r k s f e =
       from-number ended r (kept k) (kept s) false 0 f (10 ∷ []) e
@@ -116,17 +131,21 @@ module _ (ended : Line → List ℕ) (commas : ℕ) (by : ℕ → ℕ → ℕ �
       ∙ reads .is (at r true (kept k) (kept s) (spelled 0 f))
       ∙ rw (reads .cut k s (spelled 0 f))
 
-  third-comma : (r k s n : ℕ) (g : List ℕ) (gs : List (List ℕ)) → isField g ≡ true → areFields gs ≡ true → ltb r 2 ≡ false
+  third-comma : (r k s n : ℕ) (g : List ℕ) (gs : List (List ℕ))
+      → isField g ≡ true → areFields gs ≡ true → ltb r 2 ≡ false
       → from ended (at r true k s n) (44 ∷ (g ++ behind gs)) ≡ other
   unfolding at read
-  third-comma r k s n g gs e es z = from-byte ended (at r true k s n) 44 (g ++ behind gs) refl ∙ rw z (lost-field g (behind gs) e (lost-behind gs es) malformed (lit≤ tt))
+  third-comma r k s n g gs e es z = from-byte ended (at r true k s n) 44 (g ++ behind gs) refl
+      ∙ rw z (lost-field g (behind gs) e (lost-behind gs es) malformed (lit≤ tt))
 
   pub fields-told : (r k s : ℕ) (f : List ℕ) (gs : List (List ℕ)) → isField f ≡ true → areFields gs ≡ true
       → from ended (at r false (kept k) (kept s) 0) (f ++ behind gs) ≡ told commas by other r k s f gs
   unfolding told areFields
   fields-told r k s f [] e es = go (isNumber f) refl
     where
-      go : (b : Bool) → isNumber f ≡ b → from ended (at r false (kept k) (kept s) 0) (f ++ 10 ∷ []) ≡ (if b && eqb r commas then by k s (spelled 0 f) else other)
+      go : (b : Bool) → isNumber f ≡ b
+          → from ended (at r false (kept k) (kept s) 0) (f ++ 10 ∷ [])
+          ≡ (if b && eqb r commas then by k s (spelled 0 f) else other)
       go true z = last-field r k s f z
       go false z = no-number r (kept k) (kept s) false 0 f [] e es z
   fields-told r k s f (g ∷ gs) e es =
@@ -134,8 +153,10 @@ module _ (ended : Line → List ℕ) (commas : ℕ) (by : ℕ → ℕ → ℕ �
       go (isNumber f) (ltb r 2) refl refl (fields-told (r + 1) s (spelled 0 f) g gs (p .0) (p .1))
     where
       go : (b c : Bool) → isNumber f ≡ b → ltb r 2 ≡ c
-          → from ended (at (r + 1) false (kept s) (kept (spelled 0 f)) 0) (g ++ behind gs) ≡ told commas by other (r + 1) s (spelled 0 f) g gs
-          → from ended (at r false (kept k) (kept s) 0) (f ++ (44 ∷ (g ++ behind gs))) ≡ (if b && c then told commas by other (r + 1) s (spelled 0 f) g gs else other)
+          → from ended (at (r + 1) false (kept s) (kept (spelled 0 f)) 0) (g ++ behind gs)
+          ≡ told commas by other (r + 1) s (spelled 0 f) g gs
+          → from ended (at r false (kept k) (kept s) 0) (f ++ (44 ∷ (g ++ behind gs)))
+          ≡ (if b && c then told commas by other (r + 1) s (spelled 0 f) g gs else other)
       go true true z y ih =
           from-number ended r (kept k) (kept s) false 0 f (44 ∷ (g ++ behind gs)) z
           ∙ from-comma ended r (kept k) (kept s) (spelled 0 f) (g ++ behind gs) (ltb-true r 2 y)

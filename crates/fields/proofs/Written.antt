@@ -23,10 +23,13 @@ unfolding spelled
 spelled-more n [] x = refl
 spelled-more n (y ∷ xs) x = spelled-more (10 * n + (y - 48)) xs x
 
-number-more : (d : Bool) (xs : List ℕ) (x : ℕ) → numberFrom d xs ≡ true → isDigit x ≡ true → numberFrom d (xs ++ x ∷ []) ≡ true
+number-more : (d : Bool) (xs : List ℕ) (x : ℕ) → numberFrom d xs ≡ true
+    → isDigit x ≡ true → numberFrom d (xs ++ x ∷ []) ≡ true
 unfolding numberFrom
 number-more d [] x e f = rw f
-number-more d (y ∷ xs) x e f = let h = both (isDigit y) (numberFrom true xs) e in rw (h .0) (number-more true xs x (h .1) f)
+number-more d (y ∷ xs) x e f =
+    let h = both (isDigit y) (numberFrom true xs) e in
+    rw (h .0) (number-more true xs x (h .1) f)
 
 digit : (d : ℕ) → d < 10 → isDigit (48 + d) ≡ true
 digit d h = rw (le-leb 48 (48 + d) (omega arith), le-leb (48 + d) 57 (omega arith))
@@ -43,7 +46,10 @@ one-digit n h = record { number = rw (digit n h); is = omega arith }
 more-digits : (xs : List ℕ) (n : ℕ) → Written xs (n / 10) → Written (xs ++ (48 + n % 10) ∷ []) n
 more-digits xs n w =
     let h : n % 10 < 10 = omega arith in
-    record { number = number-more false xs (48 + n % 10) (w .number) (digit (n % 10) h); is = spelled-more 0 xs (48 + n % 10) ∙ rw (w .is) (omega arith) }
+    record {
+      number = number-more false xs (48 + n % 10) (w .number) (digit (n % 10) h);
+      is = spelled-more 0 xs (48 + n % 10) ∙ rw (w .is) (omega arith);
+    }
 
 pub written : (j n : ℕ) → n < 10 ^ suc j → Written (decimalWithin (suc j) n) n
 unfolding decimalWithin
@@ -63,7 +69,8 @@ unfolding decimalWithin
 decimal-length j zero n h = omega arith
 decimal-length j (suc k) n h = go j (ltb n 10) refl h (λ i l. decimal-length i k (n / 10) l)
   where
-    go : (j : ℕ) (b : Bool) → ltb n 10 ≡ b → n < 10 ^ suc j → ((i : ℕ) → n / 10 < 10 ^ suc i → length (decimalWithin k (n / 10)) ≤ suc i)
+    go : (j : ℕ) (b : Bool) → ltb n 10 ≡ b → n < 10 ^ suc j
+        → ((i : ℕ) → n / 10 < 10 ^ suc i → length (decimalWithin k (n / 10)) ≤ suc i)
         → length (if b then (48 + n) ∷ [] else decimalWithin k (n / 10) ++ ((48 + n % 10) ∷ [])) ≤ suc j
     go j true e h ih = omega arith
     go zero false e h ih = let l = ltb-false n 10 e in absurd (omega arith)
@@ -84,6 +91,7 @@ ends-decimal (suc k) n = go (ltb n 10) (ends-decimal k (n / 10))
     no-end : (d : ℕ) → lineEnds ((48 + d) ∷ []) ≡ 0
     no-end d = rw (ne-eqb (48 + d) 10 (λ e. omega arith))
 
-    go : (b : Bool) → lineEnds (decimalWithin k (n / 10)) ≡ 0 → lineEnds (if b then (48 + n) ∷ [] else decimalWithin k (n / 10) ++ (48 + n % 10) ∷ []) ≡ 0
+    go : (b : Bool) → lineEnds (decimalWithin k (n / 10)) ≡ 0
+        → lineEnds (if b then (48 + n) ∷ [] else decimalWithin k (n / 10) ++ (48 + n % 10) ∷ []) ≡ 0
     go true h = no-end n
     go false h = rw (ends-parts (decimalWithin k (n / 10)) ((48 + n % 10) ∷ []), h, no-end (n % 10))

@@ -21,7 +21,9 @@ near-number e v w (fin s m k) h = tt
 gives-numbers : (t : Bool) (e v p : ℕ) (g : Gains) → Gives t e v p g → IsNumber (g .left) × IsNumber (g .right)
 unfolding isNan ofBits
 gives-numbers true e v p g h = subst (λ (x : Gains). IsNumber (x .left) × IsNumber (x .right)) (sym h) (tt, tt)
-gives-numbers false e v p g h = (near-number e v (weight (126 - panned p)) (g .left) (h .0), near-number e v (weight (panned p)) (g .right) (h .1))
+gives-numbers false e v p g h =
+    (near-number e v (weight (126 - panned p)) (g .left) (h .0), near-number e v (weight (panned p)) (g .right) (h .1))
 
-pub numbers : (e v p : ℕ) (a : GainsAnswer) → Answered e v p a → T (not (isNan (gainsIn a .left))) × T (not (isNan (gainsIn a .right)))
+pub numbers : (e v p : ℕ) (a : GainsAnswer) → Answered e v p a
+    → T (not (isNan (gainsIn a .left))) × T (not (isNan (gainsIn a .right)))
 numbers e v p a h = gives-numbers (isOut e v p) e v p (gainsIn a) (h .1)

@@ -41,11 +41,15 @@ swept p h = at right weights tt p h
 
 risen : (p : ℕ) → p < 127 → T (rises? p (getD weights p 0))
 unfolding right
-risen p h = let w = getD weights p 0 in both-left (rises? p w) (near? p w) (both-left (both (rises? p w) (near? p w)) (placed? p w) (swept p h))
+risen p h =
+    let w = getD weights p 0 in
+    both-left (rises? p w) (near? p w) (both-left (both (rises? p w) (near? p w)) (placed? p w) (swept p h))
 
 nearby : (p : ℕ) → p < 127 → T (near? p (getD weights p 0))
 unfolding right
-nearby p h = let w = getD weights p 0 in both-right (rises? p w) (near? p w) (both-left (both (rises? p w) (near? p w)) (placed? p w) (swept p h))
+nearby p h =
+    let w = getD weights p 0 in
+    both-right (rises? p w) (near? p w) (both-left (both (rises? p w) (near? p w)) (placed? p w) (swept p h))
 
 pub at-most : (p : ℕ) → p < 127 → weight p ≤ 32768
 unfolding weight rises?
@@ -53,7 +57,9 @@ at-most p h = let w = getD weights p 0 in leb→le w 32768 (both-right (ltb w (n
 
 placed : (p : ℕ) → p < 127 → getD weights p 0 ≡ getD (row (p / 16)) (p % 16) 0
 unfolding right placed?
-placed p h = let w = getD weights p 0 in eqb→eq _ _ (both-right (both (rises? p w) (near? p w)) (placed? p w) (swept p h))
+placed p h =
+    let w = getD weights p 0 in
+    eqb→eq _ _ (both-right (both (rises? p w) (near? p w)) (placed? p w) (swept p h))
 
 -- a weight, by its row
 pub in-row : (s j : ℕ) → j < 16 → 16 * s + j < 127 → getD (row s) j 0 ≡ weight (16 * s + j)
@@ -61,7 +67,8 @@ unfolding weight
 in-row s j l h =
     let quotient : (16 * s + j) / 16 ≡ s = omega (arith, l) in
     let rest : (16 * s + j) % 16 ≡ j = omega (arith, l) in
-    sym (placed (16 * s + j) h ∙ ap (λ (x : ℕ). getD (row x) ((16 * s + j) % 16) 0) quotient ∙ ap (λ (x : ℕ). getD (row s) x 0) rest)
+    sym (placed (16 * s + j) h ∙ ap (λ (x : ℕ). getD (row x) ((16 * s + j) % 16) 0) quotient
+    ∙ ap (λ (x : ℕ). getD (row s) x 0) rest)
 
 below-next : (p : ℕ) → p < 126 → weight p < weight (suc p)
 unfolding weight rises?

@@ -53,13 +53,15 @@ least-not-0 h = let k : _≡_ {A = ℕ} 1 0 = h in omega arith
 
 -- full level at pan 64, the centre: weight 63 on both sides
 pub centre : (a : GainsAnswer) → Answered 127 127 64 a
-    → Within 1000000 (gainsIn a .left) (260144641 * 23170) (260144641 * 32768) × Within 1000000 (gainsIn a .right) (260144641 * 23170) (260144641 * 32768)
+    → Within 1000000 (gainsIn a .left) (260144641 * 23170) (260144641 * 32768)
+    × Within 1000000 (gainsIn a .right) (260144641 * 23170) (260144641 * 32768)
 unfolding weight
 centre a h = (h .1 .0 .0, h .1 .1 .0)
 
 -- half the expression and a third of the volume, full right: 64 squared times 42 squared, and nothing on the left
 pub quiet-and-right : (a : GainsAnswer) → Answered 64 42 127 a
-    → Within 1000000 (gainsIn a .left) 0 (260144641 * 32768) × Within 1000000 (gainsIn a .right) (4096 * 1764 * 32768) (260144641 * 32768)
+    → Within 1000000 (gainsIn a .left) 0 (260144641 * 32768)
+    × Within 1000000 (gainsIn a .right) (4096 * 1764 * 32768) (260144641 * 32768)
 unfolding weight
 quiet-and-right a h = (h .1 .0 .0, h .1 .1 .0)
 
@@ -85,7 +87,8 @@ accepted a h = h .0
 pub refused : (a : GainsAnswer) → Answered 0 0 128 a → gainsNumber a ≡ some 24
 refused a h = h .0
 
-pub refused-silent : (a : GainsAnswer) → Answered 0 0 128 a → gainsIn a ≡ record { left = fin false 0 (pos 0); right = fin false 0 (pos 0) }
+pub refused-silent : (a : GainsAnswer) → Answered 0 0 128 a
+    → gainsIn a ≡ record { left = fin false 0 (pos 0); right = fin false 0 (pos 0) }
 unfolding ofBits
 refused-silent a h = h .1
 

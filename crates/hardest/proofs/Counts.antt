@@ -17,7 +17,8 @@ use Rattle.splitter.specs.declared.Parser.{Parser}
 use Rattle.splitter.specs.declared.Completed.{Completed}
 use Rattle.splitter.specs.declared.Completed.the-variants as completed
 use Rattle.splitter.specs.declared.Split.{Split}
-use Rattle.splitter.specs.Split.{body, begun, stored, inSysEx, oneDataByte, atLast, dataByte, opened, ended, statusByte, split}
+use Rattle.splitter.specs.Split.{body, begun, stored, inSysEx, oneDataByte, atLast}
+use Rattle.splitter.specs.Split.{dataByte, opened, ended, statusByte, split}
 use Rattle.splitter.specs.Split as splitting
 use Rattle.message.specs.declared.Message.{Message}
 use Rattle.message.specs.declared.Message.the-variants.{NoteOn, NoteOff, Control, Program, Bend, Other}
@@ -26,7 +27,8 @@ use Rattle.sysex.specs.declared.Kind.{Kind}
 use Rattle.sysex.specs.declared.Kind.the-variants as kind
 use Rattle.sysex.specs.SysEx.{kindOf}
 use Rattle.playing.specs.declared.Answer.{Answer}
-use Rattle.note_book.specs.Book.{Slot, empty, note, isNote, freed, Heard, nothing, message, newTable, reset, report, isDone, exclusiveHeard, completedHeard}
+use Rattle.note_book.specs.Book.{Slot, empty, note, isNote, freed, Heard, nothing, message}
+use Rattle.note_book.specs.Book.{newTable, reset, report, isDone, exclusiveHeard, completedHeard}
 
 -- ---- bytes in hand
 
@@ -64,16 +66,19 @@ isOn completed.SysEx = 0
 
 -- a byte adds one to what is in hand, at most; what completes a note-on takes two away, and then both were there
 abbrev pub Pays : Parser → Split → Type 0
-Pays p s = (inHand (s .parser) + (isOn (s .completed) + isOn (s .completed)) ≤ inHand p + 1) × (isOn (s .completed) + isOn (s .completed) ≤ inHand p)
+Pays p s = (inHand (s .parser) + (isOn (s .completed) + isOn (s .completed)) ≤ inHand p + 1)
+    × (isOn (s .completed) + isOn (s .completed) ≤ inHand p)
 
-pays-free : (p q : Parser) (c : Completed) → isOn c ≡ 0 → inHand q ≤ inHand p + 1 → Pays p (record { parser = q; completed = c })
+pays-free : (p q : Parser) (c : Completed) → isOn c ≡ 0
+    → inHand q ≤ inHand p + 1 → Pays p (record { parser = q; completed = c })
 pays-free p q c z h = (omega arith, omega arith)
 
 -- the parser stays, and no message is complete
 pays-kept : (p : Parser) (c : Completed) → isOn c ≡ 0 → Pays p (record { parser = p; completed = c })
 pays-kept p c z = (omega arith, omega arith)
 
-pays-if : (x : Bool) (p : Parser) (u v : Split) → (x ≡ true → Pays p u) → (x ≡ false → Pays p v) → Pays p (if x then u else v)
+pays-if : (x : Bool) (p : Parser) (u v : Split) → (x ≡ true → Pays p u)
+    → (x ≡ false → Pays p v) → Pays p (if x then u else v)
 pays-if true p u v f g = f refl
 pays-if false p u v f g = g refl
 
@@ -92,17 +97,23 @@ hand-opened p b = let h = weigh-new (if ltb b 0xF4 then b else 0) in omega arith
 
 hand-stored : (p : Parser) (b : ℕ) → inHand (stored p b) ≤ inHand p + 1
 unfolding stored
-hand-stored p b = by-both (λ (q : Parser). inHand q ≤ inHand p + 1) (ltb (p .count) 37) _ _ (weigh-same (p .status) (p .count + 1) (p .count)) (omega arith)
+hand-stored p b = by-both (λ (q : Parser). inHand q ≤ inHand p + 1)
+    (ltb (p .count) 37) _ _ (weigh-same (p .status) (p .count + 1) (p .count)) (omega arith)
 
 pays-status : (p : Parser) (b : ℕ) → Pays p (statusByte p b)
 unfolding statusByte
 pays-status p b =
-    pays-if (leb 0xF8 b) p _ _ (λ e. pays-kept p completed.Nothing refl) (λ e. pays-free p (opened b) (ended (p .status) b) (ended-free (p .status) b) (hand-opened p b))
+    pays-if (leb 0xF8 b) p _ _ (λ e. pays-kept p completed.Nothing refl)
+    (λ e. pays-free p (opened b) (ended (p .status) b) (ended-free (p .status) b) (hand-opened p b))
 
 -- a note-on status has two data bytes
 two-bytes : (s : ℕ) → s / 16 ≡ 9 → oneDataByte s ≡ false
 unfolding oneDataByte
-two-bytes s h = rw (lt-leb 0xC0 s (omega arith), ne-eqb s 0xF1 (λ (q : s ≡ 0xF1). omega arith), ne-eqb s 0xF3 (λ (q : s ≡ 0xF3). omega arith))
+two-bytes s h = rw (
+  lt-leb 0xC0 s (omega arith),
+  ne-eqb s 0xF1 (λ (q : s ≡ 0xF1). omega arith),
+  ne-eqb s 0xF3 (λ (q : s ≡ 0xF3). omega arith),
+)
 
 -- the byte that completes a note-on finds its key
 has-key : (p : Parser) → atLast p ≡ true → p .status / 16 ≡ 9 → eqb (p .count) 0 ≡ false
@@ -119,7 +130,8 @@ pays-last p b l =
     pays-if (leb 0xF0 (p .status)) p _ _ (λ e. (omega arith, omega arith)) (λ e. go (eqb (p .status / 16) 9) refl)
   where
     go : (y : Bool) → eqb (p .status / 16) 9 ≡ y
-        → ((if y then 1 else 0) + (bit y + bit y) ≤ (if y then if eqb (p .count) 0 then 1 else 2 else 0) + 1) × (bit y + bit y ≤ (if y then if eqb (p .count) 0 then 1 else 2 else 0))
+        → ((if y then 1 else 0) + (bit y + bit y) ≤ (if y then if eqb (p .count) 0 then 1 else 2 else 0) + 1)
+        × (bit y + bit y ≤ (if y then if eqb (p .count) 0 then 1 else 2 else 0))
     go true e = rw (has-key p l (eqb-true (p .status / 16) 9 e)) (omega arith, omega arith)
     go false e = (omega arith, omega arith)
 
@@ -127,7 +139,8 @@ pays-data : (p : Parser) (b : ℕ) → Pays p (dataByte p b)
 unfolding dataByte
 pays-data p b =
     pays-if (ltb (p .status) 0x80) p _ _ (λ e. pays-kept p completed.Stray refl)
-    (λ e. pays-if (atLast p) p _ _ (λ l. pays-last p b l) (λ l. pays-free p (stored p b) completed.Nothing refl (hand-stored p b)))
+    (λ e. pays-if (atLast p) p _ _ (λ l. pays-last p b l)
+    (λ l. pays-free p (stored p b) completed.Nothing refl (hand-stored p b)))
 
 pub pays : (p : Parser) (b : ℕ) → Pays p (split p b)
 unfolding split
@@ -158,11 +171,18 @@ on-decode s a b =
     by-both (Few (bit (eqb (s / 16) 9))) (eqb (s / 16) 8) _ _ (omega arith)
     (go (eqb (s / 16) 9))
   where
-    rest : (n : ℕ) → noteOns (message (if eqb (s / 16) 11 then Control (channelOf s) a b else if eqb (s / 16) 12 then Program (channelOf s) a else if eqb (s / 16) 14 then Bend (channelOf s) b a else Other)) ≤ n
-    rest n = by-both (Few n) (eqb (s / 16) 11) _ _ (omega arith) (by-both (Few n) (eqb (s / 16) 12) _ _ (omega arith) (by-both (Few n) (eqb (s / 16) 14) _ _ (omega arith) (omega arith)))
+    rest : (n : ℕ)
+        → noteOns (message (if eqb (s / 16) 11 then Control (channelOf s) a b
+        else if eqb (s / 16) 12 then Program (channelOf s) a
+        else if eqb (s / 16) 14 then Bend (channelOf s) b a else Other)) ≤ n
+    rest n = by-both (Few n) (eqb (s / 16) 11) _ _ (omega arith)
+        (by-both (Few n) (eqb (s / 16) 12) _ _ (omega arith)
+        (by-both (Few n) (eqb (s / 16) 14) _ _ (omega arith) (omega arith)))
 
     go : (y : Bool)
-        → noteOns (message (if y then (if eqb b 0 then NoteOff (channelOf s) a else NoteOn (channelOf s) a) else if eqb (s / 16) 11 then Control (channelOf s) a b else if eqb (s / 16) 12 then Program (channelOf s) a else if eqb (s / 16) 14 then Bend (channelOf s) b a else Other))
+        → noteOns (message (if y then (if eqb b 0 then NoteOff (channelOf s) a else NoteOn (channelOf s) a)
+        else if eqb (s / 16) 11 then Control (channelOf s) a b else if eqb (s / 16) 12 then Program (channelOf s) a
+        else if eqb (s / 16) 14 then Bend (channelOf s) b a else Other))
         ≤ bit y
     go true = by-both (Few 1) (eqb b 0) _ _ (omega arith) (omega arith)
     go false = rest 0
@@ -190,13 +210,18 @@ freed-le f p empty = omega arith
 freed-le f p (note d c k) = bit-le (isNote (freed f p (note d c k)))
 
 -- what frees notes adds none
-pub in-freed : (p : ℕ) (f : Slot → Bool) (pedal : Bool) (n : ℕ → Slot) → notesIn p (λ g. freed f pedal (n g)) ≤ notesIn p n
-in-freed p f pedal n = total-le (λ (g : ℕ). bit (isNote (freed f pedal (n g)))) (λ (g : ℕ). bit (isNote (n g))) p (λ g. freed-le f pedal (n g))
+pub in-freed : (p : ℕ) (f : Slot → Bool) (pedal : Bool) (n : ℕ → Slot)
+    → notesIn p (λ g. freed f pedal (n g)) ≤ notesIn p n
+in-freed p f pedal n = total-le (λ (g : ℕ). bit (isNote (freed f pedal (n g))))
+    (λ (g : ℕ). bit (isNote (n g))) p (λ g. freed-le f pedal (n g))
 
 pub total-full : (t : ℕ → Bool) (p : ℕ) → ((g : ℕ) → g < p → t g ≡ true) → total (λ g. bit (t g)) p ≡ p
 unfolding total
 total-full t zero f = refl
-total-full t (suc p) f = let k = total-full t p (λ g h. f g (omega arith)) in let e : bit (t p) ≡ 1 = ap bit (f p (omega arith)) in omega arith
+total-full t (suc p) f =
+    let k = total-full t p (λ g h. f g (omega arith)) in
+    let e : bit (t p) ≡ 1 = ap bit (f p (omega arith)) in
+    omega arith
 
 pub in-none : (p : ℕ) → notesIn p (λ g. empty) ≡ 0
 unfolding total

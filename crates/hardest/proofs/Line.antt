@@ -66,25 +66,34 @@ unfolding count
 line-holds s i [] h g k = absurd (omega arith)
 line-holds s i (x ∷ l) h g k = go (eqb x g) refl (line-holds s (i + 1) l (h .1) g) k
   where
-    go : (b : Bool) → eqb x g ≡ b → (1 ≤ occurs g l → Holds s (i + 1) (length l) g) → 1 ≤ bit b + occurs g l → Holds s i (suc (length l)) g
-    go true e ih k = record { serial = i; low = omega arith; high = omega arith; is = subst (λ (y : ℕ). at s y ≡ generator 1 1 (i % 128)) (eqb-true x g e) (h .0) }
+    go : (b : Bool) → eqb x g ≡ b → (1 ≤ occurs g l → Holds s (i + 1) (length l) g)
+        → 1 ≤ bit b + occurs g l → Holds s i (suc (length l)) g
+    go true e ih k = record {
+      serial = i;
+      low = omega arith;
+      high = omega arith;
+      is = subst (λ (y : ℕ). at s y ≡ generator 1 1 (i % 128)) (eqb-true x g e) (h .0);
+    }
     go false e ih k =
         let r = ih (omega arith) in
         let a = r .low in
         let b = r .high in
         record { serial = r .serial; low = omega arith; high = omega arith; is = r .is }
 
-line-snoc : (s : Generators) (i : ℕ) (l : List ℕ) (g n : ℕ) → Line s i l → n ≡ i + length l → at s g ≡ generator 1 1 (n % 128) → Line s i (l ++ (g ∷ []))
+line-snoc : (s : Generators) (i : ℕ) (l : List ℕ) (g n : ℕ) → Line s i l
+    → n ≡ i + length l → at s g ≡ generator 1 1 (n % 128) → Line s i (l ++ (g ∷ []))
 line-snoc s i [] g n h e a = (subst (λ (m : ℕ). at s g ≡ generator 1 1 (m % 128)) (omega arith) a, tt)
 line-snoc s i (x ∷ l) g n h e a = (h .0, line-snoc s (i + 1) l g n (h .1) (omega arith) a)
 
 -- a generator that isn't in the line may change
-line-kept : (s t : Generators) (g : ℕ) → ((h : ℕ) → (h ≡ g → ⊥) → at t h ≡ at s h) → (i : ℕ) (l : List ℕ) → occurs g l ≡ 0 → Line s i l → Line t i l
+line-kept : (s t : Generators) (g : ℕ) → ((h : ℕ) → (h ≡ g → ⊥) → at t h ≡ at s h)
+    → (i : ℕ) (l : List ℕ) → occurs g l ≡ 0 → Line s i l → Line t i l
 unfolding count
 line-kept s t g k i [] z h = tt
 line-kept s t g k i (x ∷ l) z h = go (eqb x g) refl z (line-kept s t g k (i + 1) l)
   where
-    go : (b : Bool) → eqb x g ≡ b → bit b + occurs g l ≡ 0 → (occurs g l ≡ 0 → Line s (i + 1) l → Line t (i + 1) l) → (at t x ≡ generator 1 1 (i % 128)) × Line t (i + 1) l
+    go : (b : Bool) → eqb x g ≡ b → bit b + occurs g l ≡ 0 → (occurs g l ≡ 0 → Line s (i + 1) l → Line t (i + 1) l)
+        → (at t x ≡ generator 1 1 (i % 128)) × Line t (i + 1) l
     go true e z ih = absurd (omega arith)
     go false e z ih = (k x (eqb-false x g e) ∙ h .0, ih (omega arith) (h .1))
 
@@ -93,7 +102,8 @@ unfolding filterBy count
 others-all g [] z = refl
 others-all g (x ∷ l) z = go (eqb x g) z (others-all g l)
   where
-    go : (b : Bool) → bit b + occurs g l ≡ 0 → (occurs g l ≡ 0 → filterBy (otherThan g) l ≡ l) → (if not b then x ∷ filterBy (otherThan g) l else filterBy (otherThan g) l) ≡ x ∷ l
+    go : (b : Bool) → bit b + occurs g l ≡ 0 → (occurs g l ≡ 0 → filterBy (otherThan g) l ≡ l)
+        → (if not b then x ∷ filterBy (otherThan g) l else filterBy (otherThan g) l) ≡ x ∷ l
     go true z ih = absurd (omega arith)
     go false z ih = ap (λ (m : List ℕ). x ∷ m) (ih (omega arith))
 
@@ -115,7 +125,8 @@ record Front (s : Generators) (n g : ℕ) (l : List ℕ) : Type 0 where
   is : l ≡ g ∷ rest
   line : Line s (n + 1) rest
 
-front : (s : Generators) (n g : ℕ) (l : List ℕ) → Line s n l → 1 ≤ length l → found (firstOf (λ x. isBusyOn 1 (at s x)) l) ≡ At g → Front s n g l
+front : (s : Generators) (n g : ℕ) (l : List ℕ) → Line s n l → 1 ≤ length l
+    → found (firstOf (λ x. isBusyOn 1 (at s x)) l) ≡ At g → Front s n g l
 unfolding firstOf
 front s n g [] h k e = absurd (omega arith)
 front s n g (x ∷ l) h k e =
@@ -125,7 +136,8 @@ front s n g (x ∷ l) h k e =
     record { rest = l; is = ap (λ (y : ℕ). y ∷ l) q; line = h .1 }
 
 -- where all values are P every listed channel has a share
-same-listed : (p c v : ℕ) (l : List ℕ) → listed c (sharesFrom p v (map (λ (x : ℕ). entry x p) l)) ≡ listed c (map (λ (x : ℕ). entry x p) l)
+same-listed : (p c v : ℕ) (l : List ℕ)
+    → listed c (sharesFrom p v (map (λ (x : ℕ). entry x p) l)) ≡ listed c (map (λ (x : ℕ). entry x p) l)
 unfolding listed sharesFrom
 same-listed p c v [] = refl
 same-listed p c v (x ∷ l) = rw (le-leb p p (omega arith)) (ap (λ (b : Bool). eqb c x || b) (same-listed p c p l))
@@ -144,7 +156,8 @@ pub record Lined (p j : ℕ) (s : Generators) : Type 0 where
 
 pub lined-silent : (p : ℕ) → p ≤ 64 → Lined p 0 silent
 unfolding silent agesOf
-lined-silent p h = record { playable = playable-silent p h; first = 0; line = tt; until = refl; full = λ k. absurd (omega arith) }
+lined-silent p h =
+    record { playable = playable-silent p h; first = 0; line = tt; until = refl; full = λ k. absurd (omega arith) }
 
 module _ (p j : ℕ) (lo : 1 ≤ p) (s : Generators) (o : Lined p j s) where
   abbrev sounds : ℕ → Bool
@@ -156,7 +169,8 @@ module _ (p j : ℕ) (lo : 1 ≤ p) (s : Generators) (o : Lined p j s) where
   size : length (order s) ≡ total (λ g. bit (sounds g)) p
   size =
       sym (order-length s (o .playable .ordered))
-      ∙ total-cut (λ (g : ℕ). bit (sounds g)) p 64 (o .playable .few) (λ g k. ap (λ (b : Bool). bit (not b)) (o .playable .above g k))
+      ∙ total-cut (λ (g : ℕ). bit (sounds g)) p 64 (o .playable .few)
+      (λ g k. ap (λ (b : Bool). bit (not b)) (o .playable .above g k))
 
   few : length (order s) ≤ p
   few = let e = size in let h = total-bits sounds p in omega arith
@@ -194,7 +208,8 @@ module _ (p j : ℕ) (lo : 1 ≤ p) (s : Generators) (o : Lined p j s) where
   unchanged g = go (either g)
     where
       go : Either g → changes (ReleaseNote 1 key) (at s g) ≡ false
-      go (song k a b e h) = ap (changes (ReleaseNote 1 key)) h ∙ ne-eqb (k % 128) (j % 128) (λ (q : k % 128 ≡ j % 128). omega arith)
+      go (song k a b e h) =
+          ap (changes (ReleaseNote 1 key)) h ∙ ne-eqb (k % 128) (j % 128) (λ (q : k % 128 ≡ j % 128). omega arith)
       go (idle e) = rw e
 
   -- it ends no note
@@ -215,7 +230,8 @@ module _ (p j : ℕ) (lo : 1 ≤ p) (s : Generators) (o : Lined p j s) where
 
   unmasked : isMasked (of-table.shareOf (startTable p) p 1) ≡ false
   unfolding of-table.shareOf
-  unmasked = ap (λ (l : List Entry). isMasked (lookup 1 (sharesFrom p 0 l))) (start-entries p) ∙ masked-unlisted 1 quota ∙ ap not listed-one
+  unmasked = ap (λ (l : List Entry). isMasked (lookup 1 (sharesFrom p 0 l))) (start-entries p)
+      ∙ masked-unlisted 1 quota ∙ ap not listed-one
 
   all-listed : (g : ℕ) → IsListed quota (slots g)
   all-listed g = go (either g)
@@ -228,7 +244,9 @@ module _ (p j : ℕ) (lo : 1 ≤ p) (s : Generators) (o : Lined p j s) where
   chosen-one =
       let w = subst WellFormed (start-entries p) (start-well-formed p) in
       let h = sum-from p 0 (map (λ (c : ℕ). entry c p) startOrder) (w .rising) (omega arith) in
-      chosen p slots s (o .playable) (λ g. refl) quota 1 (shares-distinct p 0 (map (λ (c : ℕ). entry c p) startOrder) (w .distinct)) (omega arith) listed-one all-listed (startTable p)
+      chosen p slots s (o .playable) (λ g. refl) quota 1
+      (shares-distinct p 0 (map (λ (c : ℕ). entry c p) startOrder) (w .distinct))
+      (omega arith) listed-one all-listed (startTable p)
       (ap (sharesFrom p 0) (start-entries p))
 
   -- a theft if and only if all P generators have a note of the song
@@ -237,16 +255,20 @@ module _ (p j : ℕ) (lo : 1 ≤ p) (s : Generators) (o : Lined p j s) where
     pub lined : Lined p (j + 1) (a .generators)
 
   -- the assigned generator g goes last, behind m
-  behind : (g n : ℕ) (m : List ℕ) → g < p → occurs g m ≡ 0 → filterBy (otherThan g) (order s) ≡ m → Line s n m → n + length m ≡ j → (1 ≤ n → length m + 1 ≡ p) → Lined p (j + 1) (assigned g 1 key s)
+  behind : (g n : ℕ) (m : List ℕ) → g < p → occurs g m ≡ 0 → filterBy (otherThan g) (order s) ≡ m
+      → Line s n m → n + length m ≡ j → (1 ≤ n → length m + 1 ≡ p) → Lined p (j + 1) (assigned g 1 key s)
   behind g n m h z e l u f =
       let k = o .playable .few in
-      let q : order (assigned g 1 key s) ≡ m ++ (g ∷ []) = assigned-order s (o .playable .ordered) g 1 key (omega arith) ∙ ap (λ (x : List ℕ). x ++ (g ∷ [])) e in
+      let q : order (assigned g 1 key s) ≡ m ++ (g ∷ []) =
+      assigned-order s (o .playable .ordered) g 1 key (omega arith) ∙ ap (λ (x : List ℕ). x ++ (g ∷ [])) e in
       let a = length-append m (g ∷ []) in
       let new = assigned-at g 1 key s (o .playable .ordered .sized) (omega arith) in
       record {
         playable = playable-assigned g 1 key p s (o .playable) h;
         first = n;
-        line = rw q (line-snoc (assigned g 1 key s) n m g j (line-kept s (assigned g 1 key s) g (λ x r. new x ∙ rw (ne-eqb x g r)) n m z l) (omega arith) (new g ∙ rw (eq-eqb g g refl)));
+        line = rw q (line-snoc (assigned g 1 key s) n m g j
+            (line-kept s (assigned g 1 key s) g (λ x r. new x ∙ rw (ne-eqb x g r)) n m z l)
+            (omega arith) (new g ∙ rw (eq-eqb g g refl)));
         until = rw q (omega arith);
         full = λ b. rw q (let r = f b in omega arith);
       }
@@ -283,22 +305,30 @@ module _ (p j : ℕ) (lo : 1 ≤ p) (s : Generators) (o : Lined p j s) where
           let absent : occurs g (order s) ≡ 0 = once ∙ ap bit mute in
           let u = o .until in
           let early : o .first ≡ 0 = start (o .first) (o .full) (omega arith) in
-          record { stolen = z ∙ sym (lt-leb p j (omega arith)); lined = behind g (o .first) (order s) h absent (others-all g (order s) absent) (o .line) u (λ k. absurd (omega arith)) }
+          record {
+            stolen = z ∙ sym (lt-leb p j (omega arith));
+            lined = behind g (o .first) (order s) h absent
+                (others-all g (order s) absent) (o .line) u (λ k. absurd (omega arith));
+          }
         where
           start : (n : ℕ) → (1 ≤ n → length (order s) ≡ p) → length (order s) < p → n ≡ 0
           start zero f l = refl
           start (suc n) f l = absurd (let k = f (omega arith) in omega arith)
   take t (theft g d f h e v r) = go (either g)
     where
-      robs : Front s (o .first) g (order s) → length (order s) ≡ p → sounds g ≡ true → Plays (allocated s s 1 key (Took g Stolen))
+      robs : Front s (o .first) g (order s) → length (order s) ≡ p
+          → sounds g ≡ true → Plays (allocated s s 1 key (Took g Stolen))
       robs w n y =
-          let once : occurs g (g ∷ w .rest) ≡ 1 = ap (occurs g) (sym (w .is)) ∙ o .playable .ordered .once g ∙ ap bit y in
+          let once : occurs g (g ∷ w .rest) ≡ 1 =
+          ap (occurs g) (sym (w .is)) ∙ o .playable .ordered .once g ∙ ap bit y in
           let absent : occurs g (w .rest) ≡ 0 = alone g (w .rest) once in
           let size : length (order s) ≡ suc (length (w .rest)) = ap length (w .is) in
           let u = o .until in
           record {
             stolen = sym (le-leb p j (omega arith));
-            lined = behind g (o .first + 1) (w .rest) h absent (ap (filterBy (otherThan g)) (w .is) ∙ others-head g (w .rest) absent) (w .line) (omega arith) (λ k. omega arith);
+            lined = behind g (o .first + 1) (w .rest) h absent
+                (ap (filterBy (otherThan g)) (w .is) ∙ others-head g (w .rest) absent) (w .line)
+                (omega arith) (λ k. omega arith);
           }
 
       full : length (order s) ≡ p
@@ -309,9 +339,11 @@ module _ (p j : ℕ) (lo : 1 ≤ p) (s : Generators) (o : Lined p j s) where
           let q : eqb 1 d ≡ true = sym (ap (λ (z : Generator). isOf d (slotOf z)) y) ∙ e in
           let one : d ≡ 1 = sym (eqb-true 1 d q) in
           let n = full in
-          robs (front s (o .first) g (order s) (o .line) (omega arith) (oldest-one g (subst (λ (z : ℕ). oldest (BusyOn z) s ≡ At g) one r))) n x
+          robs (front s (o .first) g (order s) (o .line) (omega arith)
+          (oldest-one g (subst (λ (z : ℕ). oldest (BusyOn z) s ≡ At g) one r))) n x
       go (idle x) = let q : _≡_ {A = Bool} false true = sym (ap (isOf d) (idle-empty (at s g) x)) ∙ e in impossible (cc)
-  take t (shut f v z) = absurd (let n = total-full (λ (g : ℕ). isOf 1 (slots g)) p (λ g l. own g (f g l)) in omega arith)
+  take t (shut f v z) =
+      absurd (let n = total-full (λ (g : ℕ). isOf 1 (slots g)) p (λ g l. own g (f g l)) in omega arith)
 
   -- The law: the next note of the song.
   pub plays : Plays (noteOn s (startTable p) p false 1 key)

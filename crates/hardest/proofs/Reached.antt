@@ -42,11 +42,13 @@ first-byte : (p id : ℕ) → byteTaken (freshDevice p id) 0x90 ≡ outputOf on 
 unfolding byteTaken split statusByte opened ended begun heard
 first-byte p id = refl
 
-key-byte : (i : Instrument) (k : ℕ) → k < 128 → byteTaken (record { parser = on; instrument = i }) k ≡ outputOf (stored on k) (replied answer.Nothing i)
+key-byte : (i : Instrument) (k : ℕ) → k < 128
+    → byteTaken (record { parser = on; instrument = i }) k ≡ outputOf (stored on k) (replied answer.Nothing i)
 unfolding byteTaken split dataByte oneDataByte begun heard
 key-byte i k h = rw (lt-ltb k 0x80 h)
 
-velocity-byte : (i : Instrument) (k : ℕ) → byteTaken (record { parser = stored on k; instrument = i }) 64 ≡ outputOf on (played i (NoteOn 1 k))
+velocity-byte : (i : Instrument) (k : ℕ)
+    → byteTaken (record { parser = stored on k; instrument = i }) 64 ≡ outputOf on (played i (NoteOn 1 k))
 unfolding byteTaken split dataByte oneDataByte begun stored splitting.completed heard decode
 velocity-byte i k = refl
 
@@ -58,7 +60,10 @@ byte-key j =
 
 byte-velocity : (j : ℕ) → songByte (suc (suc (j + j))) ≡ 64
 unfolding songByte
-byte-velocity j = rw (ne-eqb (suc (suc (j + j))) 0 (λ (q : suc (suc (j + j)) ≡ 0). omega arith), ne-eqb (suc (suc (j + j)) % 2) 1 (λ (q : suc (suc (j + j)) % 2 ≡ 1). omega arith))
+byte-velocity j = rw (
+  ne-eqb (suc (suc (j + j))) 0 (λ (q : suc (suc (j + j)) ≡ 0). omega arith),
+  ne-eqb (suc (suc (j + j)) % 2) 1 (λ (q : suc (suc (j + j)) % 2 ≡ 1). omega arith),
+)
 
 song-none : song 0 ≡ []
 unfolding upTo
@@ -130,25 +135,29 @@ module _ (p id : ℕ) (lo : 1 ≤ p) (hi : p ≤ 64) where
     thefts-key : thefts fresh-one with-key ≡ j - p
     thefts-key =
         let h = thefts-snoc fresh-one l key in
-        let z : bit (isTheft (byteTaken (afterBytes fresh-one l) key .answer)) ≡ 0 = ap (λ (r : Output). bit (isTheft (r .answer))) taken-key in
+        let z : bit (isTheft (byteTaken (afterBytes fresh-one l) key .answer)) ≡ 0 =
+        ap (λ (r : Output). bit (isTheft (r .answer))) taken-key in
         let c = o .counted in
         omega arith
 
     law : Plays p j lo (i .generators) (o .lined) (noteOn (i .generators) (startTable p) p false 1 key)
     law = plays p j lo (i .generators) (o .lined)
 
-    taken-note : byteTaken (afterBytes fresh-one with-key) 64 ≡ outputOf on (noteReply i 1 key (noteOn (i .generators) (startTable p) p false 1 key))
+    taken-note : byteTaken (afterBytes fresh-one with-key) 64
+        ≡ outputOf on (noteReply i 1 key (noteOn (i .generators) (startTable p) p false 1 key))
     unfolding played playNoteOn isRhythm
     taken-note =
         ap (λ (d : Device). byteTaken d 64) after-key
         ∙ velocity-byte i key
-        ∙ ap₂ (λ (t : Table) (n : ℕ). outputOf on (noteReply i 1 key (noteOn (i .generators) t n false 1 key))) (o .table) (o .polyphony)
+        ∙ ap₂ (λ (t : Table) (n : ℕ). outputOf on (noteReply i 1 key (noteOn (i .generators) t n false 1 key)))
+        (o .table) (o .polyphony)
 
     after-note : After (suc j) (with-key ++ (64 ∷ []))
     after-note =
         let a = noteOn (i .generators) (startTable p) p false 1 key in
         let h = thefts-snoc fresh-one with-key 64 in
-        let b : bit (isTheft (byteTaken (afterBytes fresh-one with-key) 64 .answer)) ≡ bit (leb p j) = ap (λ (r : Output). bit (isTheft (r .answer))) taken-note ∙ ap bit (law .stolen) in
+        let b : bit (isTheft (byteTaken (afterBytes fresh-one with-key) 64 .answer)) ≡ bit (leb p j) =
+        ap (λ (r : Output). bit (isTheft (r .answer))) taken-note ∙ ap bit (law .stolen) in
         let c = thefts-key in
         let n = next-most p j in
         record {
@@ -166,7 +175,8 @@ module _ (p id : ℕ) (lo : 1 ≤ p) (hi : p ≤ 64) where
   song-notes zero = subst (After 0) (sym song-first) after-first
   song-notes (suc j) =
       let q : suc (suc (j + j)) ≡ suc j + suc j = omega arith in
-      subst (λ (n : ℕ). After (suc j) (song (suc n))) q (subst (After (suc j)) (sym (song-note j)) (after-note j (song (suc (j + j))) (song-notes j)))
+      subst (λ (n : ℕ). After (suc j) (song (suc n))) q
+      (subst (After (suc j)) (sym (song-note j)) (after-note j (song (suc (j + j))) (song-notes j)))
 
   reaches : (n : ℕ) → thefts fresh-one (song n) ≡ mostThefts p n
   unfolding mostThefts thefts
@@ -183,16 +193,19 @@ module _ (p id : ℕ) (lo : 1 ≤ p) (hi : p ≤ 64) where
           let z = eqb-false (n % 2) 0 e in
           let q : suc (n / 2 + n / 2) ≡ n = omega arith in
           let c = thefts-key (n / 2) (song (suc (n / 2 + n / 2))) (song-notes (n / 2)) in
-          subst (λ (m : ℕ). thefts fresh-one (song (suc m)) ≡ mostThefts p (suc n)) q (ap (thefts fresh-one) (song-key (n / 2)) ∙ c ∙ omega arith)
+          subst (λ (m : ℕ). thefts fresh-one (song (suc m)) ≡ mostThefts p (suc n)) q
+          (ap (thefts fresh-one) (song-key (n / 2)) ∙ c ∙ omega arith)
 
 -- The song of n bytes makes the most thefts.
 pub reached : Reached
 unfolding fresh
-reached p id n = every-start (λ d. thefts d (song n) ≡ mostThefts (polyphonyOf d) n) (λ p id lo hi. reaches p id lo hi n) p id
+reached p id n =
+    every-start (λ d. thefts d (song n) ≡ mostThefts (polyphonyOf d) n) (λ p id lo hi. reaches p id lo hi n) p id
 
 -- The call's answer is the most that n bytes can make.
 pub answers-most : AnswersMost
 unfolding songAnswer
 answers-most p n buffer r f =
     let h = in-range p r in
-    rw (r, f) (ap Thefts (ap (λ (d : Device). thefts d (song n)) (started-fresh p 0 r (omega arith)) ∙ reaches p 0 (h .0) (h .1) n))
+    rw (r, f) (ap Thefts
+    (ap (λ (d : Device). thefts d (song n)) (started-fresh p 0 r (omega arith)) ∙ reaches p 0 (h .0) (h .1) n))

@@ -22,7 +22,8 @@ in-range p e = go (ltb p 1) refl (ltb 64 p) refl e
     go false x true y e = impossible (cc)
     go false x false y e = let l = ltb-false p 1 x in let h = ltb-false 64 p y in (omega arith, omega arith)
 
-pub every-start : (Q : Device → Type 0) → ((p id : ℕ) → 1 ≤ p → p ≤ 64 → Q (freshDevice p id)) → (p id : ℕ) → Q (started p id .device)
+pub every-start : (Q : Device → Type 0)
+    → ((p id : ℕ) → 1 ≤ p → p ≤ 64 → Q (freshDevice p id)) → (p id : ℕ) → Q (started p id .device)
 unfolding started
 every-start Q f p id = go (isWrongP p) refl (ltb 126 id)
   where
@@ -30,7 +31,8 @@ every-start Q f p id = go (isWrongP p) refl (ltb 126 id)
     one = f 1 0 (omega arith) (omega arith)
 
     go : (x : Bool) → isWrongP p ≡ x → (y : Bool)
-        → Q ((if x then freshOutput (answer.Number 1) 1 0 else if y then freshOutput (answer.Number 2) 1 0 else freshOutput answer.Done p id) .device)
+        → Q ((if x then freshOutput (answer.Number 1) 1 0
+        else if y then freshOutput (answer.Number 2) 1 0 else freshOutput answer.Done p id) .device)
     go true e y = one
     go false e true = one
     go false e false = let r = in-range p e in f p id (r .0) (r .1)

@@ -20,15 +20,18 @@ use Rattle.hardest.proofs.Reached.{reached}
 -- ---- the words
 
 -- any P and own ID, refused or not, and any list of bytes
-pub every-list : NoWorse → (p id : ℕ) (l : List ℕ) → thefts (newDevice p id) l ≤ mostThefts (polyphonyOf (newDevice p id)) (length l)
+pub every-list : NoWorse → (p id : ℕ) (l : List ℕ)
+    → thefts (newDevice p id) l ≤ mostThefts (polyphonyOf (newDevice p id)) (length l)
 every-list h = h
 
 -- songs of every length
-pub every-length : Reached → (p id n : ℕ) → thefts (newDevice p id) (song n) ≡ mostThefts (polyphonyOf (newDevice p id)) n
+pub every-length : Reached → (p id n : ℕ)
+    → thefts (newDevice p id) (song n) ≡ mostThefts (polyphonyOf (newDevice p id)) n
 every-length h = h
 
 -- every call that isn't refused
-pub every-call : AnswersMost → (p n : ℕ) (buffer : List ℕ) → isWrongP p ≡ false → isTooLong n (length buffer) ≡ false → songAnswer p n buffer ≡ Thefts (mostThefts p n)
+pub every-call : AnswersMost → (p n : ℕ) (buffer : List ℕ) → isWrongP p ≡ false
+    → isTooLong n (length buffer) ≡ false → songAnswer p n buffer ≡ Thefts (mostThefts p n)
 every-call h = h
 
 pub any-start : (p id : ℕ) → newDevice p id ≡ started p id .device
@@ -38,7 +41,8 @@ pub own-polyphony : (d : Device) → polyphonyOf d ≡ d .instrument .polyphony
 own-polyphony d = refl
 
 -- P 64: the longest song, and the song that is a byte short of the first theft and the one that has it; no byte at all
-pub some-thefts : (mostThefts 64 65536 ≡ 32703) × (mostThefts 64 130 ≡ 0) × (mostThefts 64 131 ≡ 1) × (mostThefts 1 0 ≡ 0)
+pub some-thefts : (mostThefts 64 65536 ≡ 32703) × (mostThefts 64 130 ≡ 0)
+    × (mostThefts 64 131 ≡ 1) × (mostThefts 1 0 ≡ 0)
 unfolding mostThefts
 some-thefts = (refl, refl, refl, refl)
 

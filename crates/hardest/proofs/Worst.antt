@@ -29,10 +29,13 @@ use Rattle.reports.specs.Reports.{reported}
 use Rattle.device.specs.Device.{freshDevice, byteTaken}
 use Rattle.events.specs.declared.Event.the-variants.{Byte}
 use Rattle.events.specs.Events.{taken}
-use Rattle.note_book.specs.Book.{Slot, empty, note, isNote, Book, withHolds, isDone, isRhythm, isEnded, allFreed, put, remaining, keepNoteOn, notesAfter, keepControl, keepMessage, keepReport, Heard, message, keep}
+use Rattle.note_book.specs.Book.{Slot, empty, note, isNote, Book, withHolds, isDone, isRhythm}
+use Rattle.note_book.specs.Book.{isEnded, allFreed, put, remaining, keepNoteOn, notesAfter}
+use Rattle.note_book.specs.Book.{keepControl, keepMessage, keepReport, Heard, message, keep}
 use Rattle.note_book.specs.Claim.{Both, Live}
 use Rattle.note_book.proofs.Matches.{Matches, Outcome, masked, served, robbed, turned, note-law}
-use Rattle.note_book.proofs.Run.{IsNoNote, Right, right-nothing, right-message, right-table, right-reset, right-report, count-put, Fine, fine-next}
+use Rattle.note_book.proofs.Run.{IsNoNote, Right, right-nothing, right-message, right-table}
+use Rattle.note_book.proofs.Run.{right-reset, right-report, count-put, Fine, fine-next}
 use Rattle.note_book.proofs.Bytes.{lawful, freshBoth, fine-fresh}
 use Rattle.song.specs.Song.{isTheft, thefts}
 use Rattle.hardest.specs.Hardest.{mostThefts, polyphonyOf, NoWorse}
@@ -73,7 +76,9 @@ calm-control b c n v =
 
 calm-report : (b : Book) (g : ℕ) (a : Answer) → Calm b (keepReport b g a)
 calm-report b g a =
-    by-both (Calm b) (isDone a) _ _ (record { same = refl; fewer = let h = count-put isNote (b .polyphony) g empty (b .notes) in omega arith }) (calm-same b)
+    by-both (Calm b) (isDone a) _ _
+    (record { same = refl; fewer = let h = count-put isNote (b .polyphony) g empty (b .notes) in omega arith })
+    (calm-same b)
 
 no-theft : {A : Type 0} (a : Answer) → isTheft a ≡ false → isTheft a ≡ true → A
 no-theft a f t = let q : _≡_ {A = Bool} false true = sym f ∙ t in impossible (cc)
@@ -94,7 +99,9 @@ reported-theft : (i : Instrument) (g : ℕ) → isTheft (reported i g .answer) �
 unfolding reported
 reported-theft i g = go (leb (i .polyphony) g) (isIdle (at (i .generators) g))
   where
-    go : (x y : Bool) → isTheft ((if x then replied (answer.Number 12) i else if y then replied (answer.Number 13) i else replied answer.Done (withGenerators i (silenced (leaving.One g) (i .generators)))) .answer) ≡ false
+    go : (x y : Bool)
+        → isTheft ((if x then replied (answer.Number 12) i else if y then replied (answer.Number 13) i
+        else replied answer.Done (withGenerators i (silenced (leaving.One g) (i .generators)))) .answer) ≡ false
     go true y = refl
     go false true = refl
     go false false = refl
@@ -108,22 +115,31 @@ added b c k g =
 -- a note-on: one note more, at most, and a theft finds every generator with a note
 step-on : (b : Book) (c k : ℕ) (a : Answer) → Outcome b c k a → Step b (keepNoteOn b c k a) (message (NoteOn c k)) a
 step-on b c k a (masked e) = of-calm b b _ _ (calm-same b) refl
-step-on b c k a (served g w u n e) = record { same = refl; more = added b c k g; theft = no-theft (answer.Note c k g w) n }
-step-on b c k a (robbed g d u f e v) = record { same = refl; more = added b c k g; theft = λ t. (refl, total-full (λ (h : ℕ). isNote (b .notes h)) (b .polyphony) (λ h l. f h l .0)) }
+step-on b c k a (served g w u n e) =
+    record { same = refl; more = added b c k g; theft = no-theft (answer.Note c k g w) n }
+step-on b c k a (robbed g d u f e v) = record {
+  same = refl;
+  more = added b c k g;
+  theft = λ t. (refl, total-full (λ (h : ℕ). isNote (b .notes h)) (b .polyphony) (λ h l. f h l .0));
+}
 step-on b c k a (turned u f v) = of-calm b b _ _ (calm-same b) refl
 
 step : (i j : Instrument) (b : Book) (h : Heard) (a : Answer) → Right i b h a j → Matches i b → Step b (keep b h a) h a
 unfolding keep keepMessage played
 step i j b h a (right-nothing x n) m = of-calm b b _ x (calm-same b) (unnamed x n)
 step i j b h a (right-message (NoteOn c k) s) m = step-on b c k _ (note-law i b m c k .outcome)
-step i j b h a (right-message (NoteOff c k) s) m = of-calm b _ _ answer.Done (by-both (Calm b) (isRhythm b c) _ _ (calm-same b) (calm-freed _ _ b)) refl
+step i j b h a (right-message (NoteOff c k) s) m =
+    of-calm b _ _ answer.Done (by-both (Calm b) (isRhythm b c) _ _ (calm-same b) (calm-freed _ _ b)) refl
 step i j b h a (right-message (Control c n v) s) m = of-calm b _ _ answer.Done (calm-control b c n v) refl
 step i j b h a (right-message (Program c n) s) m = of-calm b b _ answer.Done (calm-same b) refl
 step i j b h a (right-message (Bend c x y) s) m = of-calm b b _ answer.Done (calm-same b) refl
 step i j b h a (right-message Other s) m = of-calm b b _ answer.Done (calm-same b) refl
-step i j b h a (right-table t w) m = of-calm b _ _ answer.Done (record { same = refl; fewer = in-freed (b .polyphony) _ false (b .notes) }) refl
-step i j b h a right-reset m = of-calm b _ _ answer.Done (record { same = refl; fewer = let z = in-none (b .polyphony) in omega arith }) refl
-step i j b h a (right-report g) m = of-calm b _ _ (reported i g .answer) (calm-report b g (reported i g .answer)) (reported-theft i g)
+step i j b h a (right-table t w) m =
+    of-calm b _ _ answer.Done (record { same = refl; fewer = in-freed (b .polyphony) _ false (b .notes) }) refl
+step i j b h a right-reset m =
+    of-calm b _ _ answer.Done (record { same = refl; fewer = let z = in-none (b .polyphony) in omega arith }) refl
+step i j b h a (right-report g) m =
+    of-calm b _ _ (reported i g .answer) (calm-report b g (reported i g .answer)) (reported-theft i g)
 
 -- ---- any list of bytes
 
@@ -132,7 +148,8 @@ abbrev Bounded : ℕ → Both → ℕ → ℕ → Type 0
 Bounded p s n t = 1 ≤ t → t + t + (p + p) + 1 ≤ n + inHand (s .splitter) + (held (s .book) + held (s .book))
 
 -- a theft, and t more of n bytes, where w bytes are in hand and k notes held after it
-robbing : (n t p w k v m : ℕ) → (1 ≤ t → t + t + (p + p) + 1 ≤ n + w + (k + k)) → w + 2 ≤ v + 1 → 2 ≤ v → k ≤ p → m ≡ p → 1 + t + (1 + t) + (p + p) + 1 ≤ suc n + v + (m + m)
+robbing : (n t p w k v m : ℕ) → (1 ≤ t → t + t + (p + p) + 1 ≤ n + w + (k + k))
+    → w + 2 ≤ v + 1 → 2 ≤ v → k ≤ p → m ≡ p → 1 + t + (1 + t) + (p + p) + 1 ≤ suc n + v + (m + m)
 robbing n zero p w k v m ih a b c d = omega arith
 robbing n (suc t) p w k v m ih a b c d = let i = ih (omega arith) in omega arith
 
@@ -148,9 +165,11 @@ module _ (p : ℕ) (s : Both) (f : Fine Live lawful s) (x : ℕ) where
   next = Live .next s (Byte x)
 
   law : Step (s .book) (keep (s .book) hears a) hears a
-  law = step (s .device .instrument) (next .device .instrument) (s .book) hears a (lawful .right s (Byte x) (f .is) (f .matches)) (f .matches)
+  law = step (s .device .instrument) (next .device .instrument) (s .book) hears a
+      (lawful .right s (Byte x) (f .is) (f .matches)) (f .matches)
 
-  ahead : s .book .polyphony ≡ p → (n t : ℕ) → Bounded p next n t → (b : Bool) → isTheft a ≡ b → Bounded p s (suc n) (bit b + t)
+  ahead : s .book .polyphony ≡ p → (n t : ℕ) → Bounded p next n t
+      → (b : Bool) → isTheft a ≡ b → Bounded p s (suc n) (bit b + t)
   ahead e n t ih true q h =
       let k = pays (s .splitter) x in
       let k0 = k .0 in
@@ -161,7 +180,8 @@ module _ (p : ℕ) (s : Both) (f : Fine Live lawful s) (x : ℕ) where
       let w1 = w .1 in
       let r = total-bits (λ (g : ℕ). isNote (next .book .notes g)) (next .book .polyphony) in
       let m = law .same in
-      robbing n t p (inHand (next .splitter)) (held (next .book)) (inHand (s .splitter)) (held (s .book)) ih (omega arith) (omega arith) (omega arith) (omega arith)
+      robbing n t p (inHand (next .splitter)) (held (next .book)) (inHand (s .splitter))
+      (held (s .book)) ih (omega arith) (omega arith) (omega arith) (omega arith)
   ahead e n t ih false q h =
       let k0 = pays (s .splitter) x .0 in
       let o = on-heard (s .book .id) (s .splitter) (split (s .splitter) x .completed) a in
@@ -169,7 +189,8 @@ module _ (p : ℕ) (s : Both) (f : Fine Live lawful s) (x : ℕ) where
       let i = ih (omega arith) in
       omega arith
 
-bounded : (p : ℕ) (s : Both) → Fine Live lawful s → s .book .polyphony ≡ p → (l : List ℕ) → Bounded p s (length l) (thefts (s .device) l)
+bounded : (p : ℕ) (s : Both) → Fine Live lawful s → s .book .polyphony ≡ p
+    → (l : List ℕ) → Bounded p s (length l) (thefts (s .device) l)
 unfolding thefts taken
 bounded p s f e [] = λ h. absurd (omega arith)
 bounded p s f e (x ∷ l) =
@@ -190,4 +211,5 @@ fresh-no-worse p id hi l = go (thefts (freshDevice p id) l) (bounded p (freshBot
 -- No list of n bytes makes more thefts.
 pub no-worse : NoWorse
 unfolding fresh
-no-worse p id l = every-start (λ d. thefts d l ≤ mostThefts (polyphonyOf d) (length l)) (λ p id lo hi. fresh-no-worse p id hi l) p id
+no-worse p id l =
+    every-start (λ d. thefts d l ≤ mostThefts (polyphonyOf d) (length l)) (λ p id lo hi. fresh-no-worse p id hi l) p id

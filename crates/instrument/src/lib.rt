@@ -1,7 +1,8 @@
 // The record of the sound module without its parser: what acts on a whole message works on it (R1.10, R1.11). By
 // value, for every value. Assumes nothing.
 ghost use mathlib.Core.Path.{_≡_};
-ghost use Rattle.instrument.specs.Instrument.{fresh, replaced, channelOf, withChannel, withGenerators, pedalDown, isRhythm};
+ghost use Rattle.instrument.specs.Instrument.{fresh, replaced, channelOf, withChannel};
+ghost use Rattle.instrument.specs.Instrument.{withGenerators, pedalDown, isRhythm};
 use channels::Channel;
 use generators::Generators;
 use table::Table;

@@ -27,10 +27,12 @@ module _ (l : List ℕ) (n i c : ℕ) where
       let s : i < length (take n l) = rw length-take (omega arith) in
       drop-cons (take n l) i 0 s ∙ rw (add-one, getD-take n l i 0 h)
 
-  pub among-here : (r : Bool) → i < n → n ≤ length l → among c (drop i (take n l)) ≡ r → eqb c (getD l i 0) ≡ true → true ≡ r
+  pub among-here : (r : Bool) → i < n → n ≤ length l
+      → among c (drop i (take n l)) ≡ r → eqb c (getD l i 0) ≡ true → true ≡ r
   among-here r h k e t = rw (rest h k, t) at e
 
-  pub among-next : (r : Bool) → i < n → n ≤ length l → among c (drop i (take n l)) ≡ r → eqb c (getD l i 0) ≡ false → among c (drop (i + 1) (take n l)) ≡ r
+  pub among-next : (r : Bool) → i < n → n ≤ length l → among c (drop i (take n l)) ≡ r
+      → eqb c (getD l i 0) ≡ false → among c (drop (i + 1) (take n l)) ≡ r
   among-next r h k e t = rw (rest h k, t) at e
 
   pub among-end : (r : Bool) → n ≤ i → among c (drop i (take n l)) ≡ r → false ≡ r
@@ -48,12 +50,14 @@ among-snoc x c [] = go (eqb x c)
     go false = refl
 among-snoc x c (y ∷ l) = go (eqb x y) (among-snoc x c l)
   where
-    go : (b : Bool) → among x (l ++ (c ∷ [])) ≡ among x l || eqb x c → b || among x (l ++ (c ∷ [])) ≡ (b || among x l) || eqb x c
+    go : (b : Bool) → among x (l ++ (c ∷ [])) ≡ among x l || eqb x c
+        → b || among x (l ++ (c ∷ [])) ≡ (b || among x l) || eqb x c
     go true ih = refl
     go false ih = ih
 
 -- a generator that one channel more counts: it was counted, or is the channel's, and not both
-bit-snoc : (b : Bool) (x c : ℕ) (l : List ℕ) → bit (b && among x (l ++ (c ∷ []))) ≡ bit (b && among x l) + (if among c l then 0 else bit (b && eqb x c))
+bit-snoc : (b : Bool) (x c : ℕ) (l : List ℕ)
+    → bit (b && among x (l ++ (c ∷ []))) ≡ bit (b && among x l) + (if among c l then 0 else bit (b && eqb x c))
 bit-snoc false x c l = go (among c l)
   where
     go : (t : Bool) → 0 ≡ 0 + (if t then 0 else 0)
@@ -85,14 +89,17 @@ module _ (order : List ℕ) (s : Generators) (k : ℕ) (h : k < length order) wh
   one-more : take (k + 1) order ≡ part ++ (next ∷ [])
   one-more = rw add-one (take-suc order k 0 h)
 
-  grown : busyOn (take (k + 1) order) s ≡ busyOn part s + total (λ g. if among next part then 0 else bit (isBusyOn next (at s g))) 64
+  grown : busyOn (take (k + 1) order) s
+      ≡ busyOn part s + total (λ g. if among next part then 0 else bit (isBusyOn next (at s g))) 64
   unfolding busyOn
   grown =
       ap (λ (l : List ℕ). busyOn l s) one-more
       ∙ total-same (λ (g : ℕ). bit (isBusy (at s g) && among (at s g .channel) (part ++ (next ∷ []))))
-      (λ (g : ℕ). bit (isBusy (at s g) && among (at s g .channel) part) + (if among next part then 0 else bit (isBusyOn next (at s g)))) 64
+      (λ (g : ℕ). bit (isBusy (at s g) && among (at s g .channel) part)
+      + (if among next part then 0 else bit (isBusyOn next (at s g)))) 64
       (λ g j. bit-snoc (isBusy (at s g)) (at s g .channel) next part)
-      ∙ total-add (λ (g : ℕ). bit (isBusy (at s g) && among (at s g .channel) part)) (λ (g : ℕ). if among next part then 0 else bit (isBusyOn next (at s g))) 64
+      ∙ total-add (λ (g : ℕ). bit (isBusy (at s g) && among (at s g .channel) part))
+      (λ (g : ℕ). if among next part then 0 else bit (isBusyOn next (at s g))) 64
 
   pub joint-same : among next part ≡ true → busyOn (take (k + 1) order) s ≡ busyOn part s
   joint-same t =
@@ -104,7 +111,8 @@ module _ (order : List ℕ) (s : Generators) (k : ℕ) (h : k < length order) wh
   pub joint-more : among next part ≡ false → busyOn (take (k + 1) order) s ≡ busyOn part s + busyCount s next
   unfolding busyCount
   joint-more t =
-      let e : total (λ g. if among next part then 0 else bit (isBusyOn next (at s g))) 64 ≡ total (λ g. bit (isBusyOn next (at s g))) 64 = rw t in
+      let e : total (λ g. if among next part then 0 else bit (isBusyOn next (at s g))) 64
+      ≡ total (λ g. bit (isBusyOn next (at s g))) 64 = rw t in
       let a = grown in
       omega arith
 
@@ -118,4 +126,5 @@ bit-none false = refl
 
 pub busy-none : (s : Generators) → busyOn [] s ≡ 0
 unfolding busyOn
-busy-none s = total-same (λ (g : ℕ). bit (isBusy (at s g) && false)) (λ (g : ℕ). 0) 64 (λ g h. bit-none (isBusy (at s g))) ∙ total-zero 64
+busy-none s = total-same (λ (g : ℕ). bit (isBusy (at s g) && false))
+    (λ (g : ℕ). 0) 64 (λ g h. bit-none (isBusy (at s g))) ∙ total-zero 64

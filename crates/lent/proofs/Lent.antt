@@ -61,19 +61,23 @@ spelled p w is = subst (Is P.the-row p) (LL.tells P.the-type P′.the-laws p (w 
 
 -- ---- what a whole record asks of its parts
 
-pub made : (p : Parser) (i : Instrument) → Is P.the-row p (par-val p ∷ []) → Is I.the-row i (ins-val i ∷ []) → Is D.the-row (device-of p i) (dev-val (device-of p i) ∷ [])
+pub made : (p : Parser) (i : Instrument) → Is P.the-row p (par-val p ∷ [])
+    → Is I.the-row i (ins-val i ∷ []) → Is D.the-row (device-of p i) (dev-val (device-of p i) ∷ [])
 made p i isp isi = LL.owes D.the-type D′.the-laws (device-of p i) (isp, (isi, tt))
 
-pub made-note : (p : Parser) (i : Instrument) (g : Generators) → Is P.the-row p (par-val p ∷ []) → Is I.the-row i (ins-val i ∷ []) → Is G.the-row g (gen-val g ∷ [])
+pub made-note : (p : Parser) (i : Instrument) (g : Generators) → Is P.the-row p (par-val p ∷ [])
+    → Is I.the-row i (ins-val i ∷ []) → Is G.the-row g (gen-val g ∷ [])
     → Is D.the-row (device-of p (withGenerators i g)) (dev-val (device-of p (withGenerators i g)) ∷ [])
 made-note p i g isp isi isg =
     let o = LL.owed I.the-type I′.the-laws i (ins-val i ∷ []) isi in
-    made p (withGenerators i g) isp (LL.owes I.the-type I′.the-laws (withGenerators i g) (o .0, (o .1 .0, (o .1 .1 .0, (o .1 .1 .1 .0, (isg, tt))))))
+    made p (withGenerators i g) isp
+    (LL.owes I.the-type I′.the-laws (withGenerators i g) (o .0, (o .1 .0, (o .1 .1 .0, (o .1 .1 .1 .0, (isg, tt))))))
 
 -- ---- a call: of what its contract ensures the clause alone, without what is said of the parameters at exit
 
 module _ {M : Type 1} (𝓤 : URA M) (H : Heap 𝓤) (A : Atoms 𝓤) where
-  pub clause : (T : Ended) (κs : Lfts (T .signature .lifetimes)) (a : Args (T .signature) κs) (P : Type 0) → ent 𝓤 (exits 𝓤 H A (T .signature) (T .kept) κs a (λ _. fact 𝓤 P)) (fact 𝓤 P)
+  pub clause : (T : Ended) (κs : Lfts (T .signature .lifetimes)) (a : Args (T .signature) κs) (P : Type 0)
+      → ent 𝓤 (exits 𝓤 H A (T .signature) (T .kept) κs a (λ _. fact 𝓤 P)) (fact 𝓤 P)
   clause T κs a P = exE 𝓤 _ (λ ws. snd∗ 𝓤 (sem 𝓤 H A (lasts T κs a ws)) (fact 𝓤 P))
 
 -- ---- branches
@@ -83,6 +87,9 @@ holds true h = refl
 holds false h = absurd h
 
 -- past a branch that does nothing, to what follows
-module _ {K : Type 0} {M : Type 1} {𝓤 : URA M} {H : Heap 𝓤} {A : Atoms 𝓤} {W : Given 𝓤 H A} {Γ : List (Item 𝓤)} {C : Calls 𝓤 H} {Λ : Loops 𝓤 H} {E : Env 𝓤 H} where
-  pub go-on : K → (rest : Mir) (Kf : Val → SProp 𝓤) → Step K W Γ (runs C Λ E rest (atRet E Kf)) Γ (runs C Λ E skip (anyQ (afterSeq 𝓤 H (Wp 𝓤 H C Λ E rest (post 𝓤 H (atRet E Kf))) (post 𝓤 H (atRet E Kf)))))
+module _ {K : Type 0} {M : Type 1} {𝓤 : URA M} {H : Heap 𝓤} {A : Atoms 𝓤}
+    {W : Given 𝓤 H A} {Γ : List (Item 𝓤)} {C : Calls 𝓤 H} {Λ : Loops 𝓤 H} {E : Env 𝓤 H} where
+  pub go-on : K → (rest : Mir) (Kf : Val → SProp 𝓤)
+      → Step K W Γ (runs C Λ E rest (atRet E Kf)) Γ
+      (runs C Λ E skip (anyQ (afterSeq 𝓤 H (Wp 𝓤 H C Λ E rest (post 𝓤 H (atRet E Kf))) (post 𝓤 H (atRet E Kf)))))
   go-on t rest Kf = step (λ s. skips t $ record { prf = s .prf })

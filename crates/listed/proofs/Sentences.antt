@@ -11,7 +11,8 @@ use Rattle.device.specs.declared.Output.{Output}
 use Rattle.device.specs.Device.{started}
 use Rattle.listed.specs.declared.Awaits.the-variants.{Refused}
 use Rattle.listed.specs.declared.Lister.{Lister}
-use Rattle.listed.specs.Listing.{heading, newLister, behindStart, isRefused, startLine, startLister, missing, line, after, listedBy, afterAll, endLine, listing}
+use Rattle.listed.specs.Listing.{heading, newLister, behindStart, isRefused, startLine, startLister}
+use Rattle.listed.specs.Listing.{missing, line, after, listedBy, afterAll, endLine, listing}
 
 -- behind a start no byte is missing
 pub none-missing : (a : Answer) → missing (behindStart a) ≡ []
@@ -34,7 +35,8 @@ missing-p = rw (append-nil (startLine (started 0 0)), end-started (started 0 0),
 
 pub missing-id : (p : ℕ) → listing (p ∷ []) ≡ listing (p ∷ 0 ∷ [])
 unfolding listing newLister listedBy afterAll line after endLine
-missing-id p = rw (append-nil (startLine (started p 0)), end-started (started p 0), append-nil (startLine (started p 0)))
+missing-id p =
+    rw (append-nil (startLine (started p 0)), end-started (started p 0), append-nil (startLine (started p 0)))
 
 -- where the start was refused, no byte lists or changes anything
 module _ (l : Lister) (n : ℕ) (e : l .awaits ≡ Refused n) where
@@ -65,8 +67,16 @@ unfolding startLine behindStart isRefused
 refused-line o n e = rw e
 
 -- R16.6: a refused start has one line, whatever comes behind it
-pub failed-start : (p id n : ℕ) (bs : List ℕ) → started p id .answer ≡ answer.Number n → listing (p ∷ id ∷ bs) ≡ heading ++ lineOf Nowhere (answer.Number n)
+pub failed-start : (p id n : ℕ) (bs : List ℕ) → started p id .answer ≡ answer.Number n
+    → listing (p ∷ id ∷ bs) ≡ heading ++ lineOf Nowhere (answer.Number n)
 unfolding listing newLister listedBy afterAll line after
 failed-start p id n bs e =
     let o = started p id in
-    rw (nothing-listed (startLister o) n (stopped o n e) bs, nothing-changed (startLister o) n (stopped o n e) bs, append-nil (startLine o), end-started o, append-nil (startLine o), refused-line o n e)
+    rw (
+      nothing-listed (startLister o) n (stopped o n e) bs,
+      nothing-changed (startLister o) n (stopped o n e) bs,
+      append-nil (startLine o),
+      end-started o,
+      append-nil (startLine o),
+      refused-line o n e,
+    )

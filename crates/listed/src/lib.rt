@@ -5,7 +5,9 @@ ghost use mathlib.Core.Path.{_≡_};
 ghost use lib.ListN.{length, take};
 ghost use Rattle.text.specs.Text.{Put};
 ghost use Rattle.device.specs.Device.{started};
-ghost use Rattle.listed.specs.Listing.{Lists, heading, newLister, nextOffset, behindStart, isRefused, startLine, startLister, midiLine, afterMidi, line, after, listedBy, afterAll, endLine};
+ghost use Rattle.listed.specs.Listing.{Lists, heading, newLister, nextOffset, behindStart};
+ghost use Rattle.listed.specs.Listing.{isRefused, startLine, startLister, midiLine};
+ghost use Rattle.listed.specs.Listing.{afterMidi, line, after, listedBy, afterAll, endLine};
 use device::Device;
 use lines::Offset;
 use playing::Answer;
@@ -91,7 +93,8 @@ pub fn is_refused(a: Awaits) -> bool
 
 // The start: a refused one lists its number and takes no byte more.
 fn list_start(page: &mut [u8], used: &mut usize, polyphony: u8, id: u8) -> Lister
-    ensures { λ r. ⌜ Lists (now (page .entry)) (now (used .entry)) (startLine (started polyphony id)) (startLister (started polyphony id)) r (now (used .exit)) (now (page .exit)) ⌝ }
+    ensures { λ r. ⌜ Lists (now (page .entry)) (now (used .entry)) (startLine (started polyphony id))
+        (startLister (started polyphony id)) r (now (used .exit)) (now (page .exit)) ⌝ }
 {
     let o = device::start(polyphony, id);
     let answer = o.answer;
@@ -112,7 +115,8 @@ fn list_start(page: &mut [u8], used: &mut usize, polyphony: u8, id: u8) -> Liste
 
 // A MIDI byte.
 fn list_byte(l: Lister, page: &mut [u8], used: &mut usize, b: u8) -> Lister
-    ensures { λ r. ⌜ Lists (now (page .entry)) (now (used .entry)) (midiLine l b) (afterMidi l b) r (now (used .exit)) (now (page .exit)) ⌝ }
+    ensures { λ r. ⌜ Lists (now (page .entry)) (now (used .entry))
+        (midiLine l b) (afterMidi l b) r (now (used .exit)) (now (page .exit)) ⌝ }
 {
     let o = device::byte(l.device, b);
     let answer = o.answer;
@@ -128,7 +132,8 @@ fn list_byte(l: Lister, page: &mut [u8], used: &mut usize, b: u8) -> Lister
 
 // One byte of the input: P, the ID or a MIDI byte.
 fn one(l: Lister, page: &mut [u8], used: &mut usize, b: u8) -> Lister
-    ensures { λ r. ⌜ Lists (now (page .entry)) (now (used .entry)) (line l b) (after l b) r (now (used .exit)) (now (page .exit)) ⌝ }
+    ensures { λ r. ⌜ Lists (now (page .entry)) (now (used .entry))
+        (line l b) (after l b) r (now (used .exit)) (now (page .exit)) ⌝ }
 {
     let awaits = l.awaits;
     match awaits {
@@ -149,8 +154,10 @@ fn one(l: Lister, page: &mut [u8], used: &mut usize, b: u8) -> Lister
 // The bytes of a read, listed from the page's start on. Where the page has 128 bytes for each of them, what stands
 // before `used` is what they list, whole.
 pub fn all(l: Lister, page: &mut [u8], bytes: &[u8]) -> Listed
-    ensures { λ r. ⌜ Lists (now (page .entry)) 0 (listedBy l (now (bytes .entry))) (afterAll l (now (bytes .entry))) (r .lister) (r .used) (now (page .exit)) ⌝ }
-    ensures { λ r. ⌜ (128 * length (now (bytes .entry)) ≤ length (now (page .entry)) → take (r .used) (now (page .exit)) ≡ listedBy l (now (bytes .entry))) ⌝ }
+    ensures { λ r. ⌜ Lists (now (page .entry)) 0 (listedBy l (now (bytes .entry)))
+        (afterAll l (now (bytes .entry))) (r .lister) (r .used) (now (page .exit)) ⌝ }
+    ensures { λ r. ⌜ (128 * length (now (bytes .entry)) ≤ length (now (page .entry))
+        → take (r .used) (now (page .exit)) ≡ listedBy l (now (bytes .entry))) ⌝ }
 {
     let mut k = l;
     let mut used = 0;

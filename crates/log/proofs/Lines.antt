@@ -76,8 +76,10 @@ module _ (k v : ℕ) (digits : List ℕ) (d : decimal v ≡ digits) where
   unfolding eventBy lineOf
   spelled e h = go (eqb k 98) refl (ltb v 256) refl (eqb k 101) refl (ltb v 64) refl h
     where
-      go : (a : Bool) → eqb k 98 ≡ a → (b : Bool) → ltb v 256 ≡ b → (a′ : Bool) → eqb k 101 ≡ a′ → (b′ : Bool) → ltb v 64 ≡ b′
-          → (if a && b then some (Byte v) else if a′ && b′ then some (Report v) else none) ≡ some e → Spelled (k ∷ 44 ∷ (digits ++ (0x0A ∷ []))) e
+      go : (a : Bool) → eqb k 98 ≡ a → (b : Bool) → ltb v 256 ≡ b
+          → (a′ : Bool) → eqb k 101 ≡ a′ → (b′ : Bool) → ltb v 64 ≡ b′
+          → (if a && b then some (Byte v) else if a′ && b′ then some (Report v) else none) ≡ some e
+          → Spelled (k ∷ 44 ∷ (digits ++ (0x0A ∷ []))) e
       go true p true q a′ p′ b′ q′ h =
           let x : Byte v ≡ e = cc in
           rw (← x) (record { line = rw (eqb-true k 98 p, d); inside = ltb-true v 256 q })
@@ -94,7 +96,10 @@ record Digit (x : ℕ) : Type 0 where
   high : x ≤ 57
 
 digit : (x : ℕ) → isDigit x ≡ true → Digit x
-digit x h = record { low = leb-true 48 x (and-left (leb 48 x) (leb x 57) h); high = leb-true x 57 (and-right (leb 48 x) (leb x 57) h) }
+digit x h = record {
+  low = leb-true 48 x (and-left (leb 48 x) (leb x 57) h);
+  high = leb-true x 57 (and-right (leb 48 x) (leb x 57) h);
+}
 
 not-zero : (x : ℕ) → not (eqb x 48) ≡ true → x ≡ 48 → ⊥
 not-zero x h = eqb-false x 48 (not-true (eqb x 48) h)
@@ -127,7 +132,8 @@ decimal-2 x y n h k =
     let f : 48 + v % 10 ≡ y = omega arith in
     rw (le-ltb v 10 (omega arith), lt-ltb v 100 (omega arith), e, f)
 
-decimal-3 : (x y z : ℕ) → (x ≡ 48 → ⊥) → Digit x → Digit y → Digit z → decimal (100 * (x - 48) + 10 * (y - 48) + (z - 48)) ≡ x ∷ y ∷ z ∷ []
+decimal-3 : (x y z : ℕ) → (x ≡ 48 → ⊥) → Digit x → Digit y → Digit z
+    → decimal (100 * (x - 48) + 10 * (y - 48) + (z - 48)) ≡ x ∷ y ∷ z ∷ []
 unfolding decimal
 decimal-3 x y z n h k l =
     let a = h .low in
@@ -151,11 +157,13 @@ record Right (c e : ℕ) (digits : Bool) (o : Option Event) (v : Event) : Type 0
   all : digits ≡ true
   value : o ≡ some v
 
-is-right : (c e : ℕ) (digits : Bool) (o : Option Event) (v : Event) → (if right c e digits then o else none) ≡ some v → Right c e digits o v
+is-right : (c e : ℕ) (digits : Bool) (o : Option Event) (v : Event)
+    → (if right c e digits then o else none) ≡ some v → Right c e digits o v
 unfolding right
 is-right c e digits o v h = go (eqb c 44) refl (eqb e 0x0A) refl digits refl h
   where
-    go : (a : Bool) → eqb c 44 ≡ a → (b : Bool) → eqb e 0x0A ≡ b → (d : Bool) → digits ≡ d → (if a && (b && d) then o else none) ≡ some v → Right c e digits o v
+    go : (a : Bool) → eqb c 44 ≡ a → (b : Bool) → eqb e 0x0A ≡ b → (d : Bool)
+        → digits ≡ d → (if a && (b && d) then o else none) ≡ some v → Right c e digits o v
     go true p true q true r h = record { comma = eqb-true c 44 p; end = eqb-true e 0x0A q; all = r; value = h }
     go true p true q false r h = impossible (cc)
     go true p false q d r h = impossible (cc)
@@ -179,7 +187,8 @@ parse-spells (k ∷ c ∷ x ∷ y ∷ e ∷ []) v h =
     let a = and-left (not (eqb x 48)) (isDigit x && isDigit y) (r .all) in
     let b = and-right (not (eqb x 48)) (isDigit x && isDigit y) (r .all) in
     rw (r .comma, r .end)
-    (spelled k n (x ∷ y ∷ []) (decimal-2 x y (not-zero x a) (digit x (and-left (isDigit x) (isDigit y) b)) (digit y (and-right (isDigit x) (isDigit y) b))) v (r .value))
+    (spelled k n (x ∷ y ∷ []) (decimal-2 x y (not-zero x a) (digit x (and-left (isDigit x) (isDigit y) b))
+    (digit y (and-right (isDigit x) (isDigit y) b))) v (r .value))
 parse-spells (k ∷ c ∷ x ∷ y ∷ z ∷ e ∷ []) v h =
     let n = 100 * (x - 48) + 10 * (y - 48) + (z - 48) in
     let r = is-right c e (not (eqb x 48) && (isDigit x && (isDigit y && isDigit z))) (eventBy k n) v h in
@@ -188,7 +197,8 @@ parse-spells (k ∷ c ∷ x ∷ y ∷ z ∷ e ∷ []) v h =
     let d = and-right (isDigit x) (isDigit y && isDigit z) b in
     rw (r .comma, r .end)
     (spelled k n (x ∷ y ∷ z ∷ [])
-    (decimal-3 x y z (not-zero x a) (digit x (and-left (isDigit x) (isDigit y && isDigit z) b)) (digit y (and-left (isDigit y) (isDigit z) d)) (digit z (and-right (isDigit y) (isDigit z) d)))
+    (decimal-3 x y z (not-zero x a) (digit x (and-left (isDigit x) (isDigit y && isDigit z) b))
+    (digit y (and-left (isDigit y) (isDigit z) d)) (digit z (and-right (isDigit y) (isDigit z) d)))
     v (r .value))
 parse-spells (k ∷ c ∷ x ∷ y ∷ z ∷ e ∷ f ∷ l) v h = nothing h
 
@@ -209,14 +219,18 @@ every-upTo p f (suc n) i h k =
     let s : every p (upTo f n) && every p (f n ∷ []) ≡ true = sym (every-append p (upTo f n) (f n ∷ [])) ∙ h in
     go (eqb i n) refl s (λ j. every-upTo p f n i (and-left (every p (upTo f n)) (every p (f n ∷ [])) s) j)
   where
-    go : (b : Bool) → eqb i n ≡ b → every p (upTo f n) && (p (f n) && true) ≡ true → (i < n → p (f i) ≡ true) → p (f i) ≡ true
-    go true e s ih = ap (λ (j : ℕ). p (f j)) (eqb-true i n e) ∙ and-left (p (f n)) true (and-right (every p (upTo f n)) (p (f n) && true) s)
+    go : (b : Bool) → eqb i n ≡ b → every p (upTo f n) && (p (f n) && true) ≡ true
+        → (i < n → p (f i) ≡ true) → p (f i) ≡ true
+    go true e s ih = ap (λ (j : ℕ). p (f j)) (eqb-true i n e)
+        ∙ and-left (p (f n)) true (and-right (every p (upTo f n)) (p (f n) && true) s)
     go false e s ih = let d = eqb-false i n e in ih (omega arith)
 
 every-at : (p : Event → Bool) → every p loggable ≡ true → (e : Event) → Loggable e → p e ≡ true
 unfolding loggable
-every-at p h (Byte b) k = every-upTo p Byte 256 b (and-left (every p (upTo Byte 256)) (every p (upTo Report 64)) (sym (every-append p (upTo Byte 256) (upTo Report 64)) ∙ h)) k
-every-at p h (Report g) k = every-upTo p Report 64 g (and-right (every p (upTo Byte 256)) (every p (upTo Report 64)) (sym (every-append p (upTo Byte 256) (upTo Report 64)) ∙ h)) k
+every-at p h (Byte b) k = every-upTo p Byte 256 b (and-left (every p (upTo Byte 256))
+    (every p (upTo Report 64)) (sym (every-append p (upTo Byte 256) (upTo Report 64)) ∙ h)) k
+every-at p h (Report g) k = every-upTo p Report 64 g (and-right (every p (upTo Byte 256))
+    (every p (upTo Report 64)) (sym (every-append p (upTo Byte 256) (upTo Report 64)) ∙ h)) k
 
 module _ {A : Type 0} (p : A → Bool) where
   first-none : (l : List A) → firstOf p l ≡ none → every (λ x. not (p x)) l ≡ true
@@ -224,17 +238,20 @@ module _ {A : Type 0} (p : A → Bool) where
   first-none [] h = refl
   first-none (x ∷ l) h = go (p x) h (λ k. first-none l k)
     where
-      go : (b : Bool) → (if b then some x else firstOf p l) ≡ none → (firstOf p l ≡ none → every (λ x. not (p x)) l ≡ true) → not b && every (λ x. not (p x)) l ≡ true
+      go : (b : Bool) → (if b then some x else firstOf p l) ≡ none
+          → (firstOf p l ≡ none → every (λ x. not (p x)) l ≡ true) → not b && every (λ x. not (p x)) l ≡ true
       go true h ih = impossible (cc)
       go false h ih = ih h
 
   -- the first that passes passes, and whatever all pass
-  first-passes : (q : A → Bool) (l : List A) (y : A) → firstOf p l ≡ some y → every q l ≡ true → (p y ≡ true) × (q y ≡ true)
+  first-passes : (q : A → Bool) (l : List A) (y : A)
+      → firstOf p l ≡ some y → every q l ≡ true → (p y ≡ true) × (q y ≡ true)
   unfolding firstOf
   first-passes q [] y h k = impossible (cc)
   first-passes q (x ∷ l) y h k = go (p x) refl h (λ s. first-passes q l y s (and-right (q x) (every q l) k))
     where
-      go : (b : Bool) → p x ≡ b → (if b then some x else firstOf p l) ≡ some y → (firstOf p l ≡ some y → (p y ≡ true) × (q y ≡ true)) → (p y ≡ true) × (q y ≡ true)
+      go : (b : Bool) → p x ≡ b → (if b then some x else firstOf p l) ≡ some y
+          → (firstOf p l ≡ some y → (p y ≡ true) × (q y ≡ true)) → (p y ≡ true) × (q y ≡ true)
       go true e h ih = let s : x ≡ y = cc in rw (← s) (e, and-left (q x) (every q l) k)
       go false e h ih = ih h
 

@@ -31,7 +31,8 @@ module _ (l : List ℕ) (n : ℕ) (size : length l ≡ 7) where
   pub said-5 : n ≡ 5 → eventOf (take n l) ≡ parse (getD l 0 0 ∷ getD l 1 0 ∷ getD l 2 0 ∷ getD l 3 0 ∷ getD l 4 0 ∷ [])
   said-5 e = event-parse (take n l) ∙ ap parse (ap (λ (m : ℕ). take m l) e ∙ front l size)
     where
-      front : (l : List ℕ) → length l ≡ 7 → take 5 l ≡ getD l 0 0 ∷ getD l 1 0 ∷ getD l 2 0 ∷ getD l 3 0 ∷ getD l 4 0 ∷ []
+      front : (l : List ℕ) → length l ≡ 7
+          → take 5 l ≡ getD l 0 0 ∷ getD l 1 0 ∷ getD l 2 0 ∷ getD l 3 0 ∷ getD l 4 0 ∷ []
       front [] h = absurd (omega arith)
       front (a ∷ []) h = absurd (omega arith)
       front (a ∷ b ∷ []) h = absurd (omega arith)
@@ -39,10 +40,12 @@ module _ (l : List ℕ) (n : ℕ) (size : length l ≡ 7) where
       front (a ∷ b ∷ c ∷ d ∷ []) h = absurd (omega arith)
       front (a ∷ b ∷ c ∷ d ∷ e ∷ l) h = refl
 
-  pub said-6 : n ≡ 6 → eventOf (take n l) ≡ parse (getD l 0 0 ∷ getD l 1 0 ∷ getD l 2 0 ∷ getD l 3 0 ∷ getD l 4 0 ∷ getD l 5 0 ∷ [])
+  pub said-6 : n ≡ 6
+      → eventOf (take n l) ≡ parse (getD l 0 0 ∷ getD l 1 0 ∷ getD l 2 0 ∷ getD l 3 0 ∷ getD l 4 0 ∷ getD l 5 0 ∷ [])
   said-6 e = event-parse (take n l) ∙ ap parse (ap (λ (m : ℕ). take m l) e ∙ front l size)
     where
-      front : (l : List ℕ) → length l ≡ 7 → take 6 l ≡ getD l 0 0 ∷ getD l 1 0 ∷ getD l 2 0 ∷ getD l 3 0 ∷ getD l 4 0 ∷ getD l 5 0 ∷ []
+      front : (l : List ℕ) → length l ≡ 7
+          → take 6 l ≡ getD l 0 0 ∷ getD l 1 0 ∷ getD l 2 0 ∷ getD l 3 0 ∷ getD l 4 0 ∷ getD l 5 0 ∷ []
       front [] h = absurd (omega arith)
       front (a ∷ []) h = absurd (omega arith)
       front (a ∷ b ∷ []) h = absurd (omega arith)

@@ -19,7 +19,9 @@ use Rattle.arranging.specs.Run.{joined, begun, byteHeard, heard}
 use Rattle.arranging.proofs.Parts.{stays, parts}
 use Rattle.log_lines.specs.declared.OrderLine.{OrderLine}
 use Rattle.log_lines.specs.declared.Reading.{Reading}
-use Rattle.log_lines.specs.LogLines.{newOrder, orderByte, orderBytes, orderIn, reading, newReading, byteRead, bytesRead, partsRead, isKnown, ended, messageOf, writtenLine, firstLine, behindFirst, arranged, standardOutput, standardError}
+use Rattle.log_lines.specs.LogLines.{newOrder, orderByte, orderBytes, orderIn, reading, newReading}
+use Rattle.log_lines.specs.LogLines.{byteRead, bytesRead, partsRead, isKnown, ended, messageOf, writtenLine}
+use Rattle.log_lines.specs.LogLines.{firstLine, behindFirst, arranged, standardOutput, standardError}
 
 -- ---- the bytes of a read
 
@@ -29,15 +31,18 @@ unfolding bytesRead byteRead heard
 all-heard o r [] = refl
 all-heard o r (b ∷ bs) = all-heard o (byteHeard r b) bs
 
-pub in-log : (c : Reading) (bs : List ℕ) → c .ordered ≡ true → bytesRead c bs ≡ reading true (c .order) (heard (c .run) bs)
+pub in-log : (c : Reading) (bs : List ℕ) → c .ordered ≡ true
+    → bytesRead c bs ≡ reading true (c .order) (heard (c .run) bs)
 in-log c bs e = ap (λ (x : Bool). bytesRead (reading x (c .order) (c .run)) bs) e ∙ all-heard (c .order) (c .run) bs
 
-pub in-order : (c : Reading) (bs : List ℕ) → c .ordered ≡ false → bytesRead c bs ≡ bytesRead (reading false (c .order) (c .run)) bs
+pub in-order : (c : Reading) (bs : List ℕ) → c .ordered ≡ false
+    → bytesRead c bs ≡ bytesRead (reading false (c .order) (c .run)) bs
 in-order c bs e = ap (λ (x : Bool). bytesRead (reading x (c .order) (c .run)) bs) e
 
 -- in the order's line, at turn i of a loop: its end, and any other byte
 module _ (bs : List ℕ) (i : ℕ) (h : i < length bs) (o : OrderLine) (r : Run) where
-  turn : bytesRead (reading false o r) (drop i bs) ≡ bytesRead (byteRead (reading false o r) (getD bs i 0)) (drop (i + 1) bs)
+  turn : bytesRead (reading false o r) (drop i bs)
+      ≡ bytesRead (byteRead (reading false o r) (getD bs i 0)) (drop (i + 1) bs)
   unfolding bytesRead
   turn = rw (add-one i) (ap (bytesRead (reading false o r)) (drop-cons bs i 0 h))
 
@@ -45,11 +50,15 @@ module _ (bs : List ℕ) (i : ℕ) (h : i < length bs) (o : OrderLine) (r : Run)
   rest : take (length bs - (i + 1)) (drop (i + 1) bs) ≡ drop (i + 1) bs
   rest = take-all (length bs - (i + 1)) (drop (i + 1) bs) (let n = length-drop (i + 1) bs in omega arith)
 
-  pub at-end : getD bs i 0 ≡ 10 → bytesRead (reading false o r) (drop i bs) ≡ reading true o (heard (begun (orderIn o)) (take (length bs - (i + 1)) (drop (i + 1) bs)))
+  pub at-end : getD bs i 0 ≡ 10
+      → bytesRead (reading false o r) (drop i bs)
+      ≡ reading true o (heard (begun (orderIn o)) (take (length bs - (i + 1)) (drop (i + 1) bs)))
   unfolding byteRead
   at-end e = turn ∙ rw (eq-eqb (getD bs i 0) 10 e, rest) (all-heard o (begun (orderIn o)) (drop (i + 1) bs))
 
-  pub at-byte : (getD bs i 0 ≡ 10 → ⊥) → bytesRead (reading false o r) (drop i bs) ≡ bytesRead (reading false (orderByte o (getD bs i 0)) r) (drop (i + 1) bs)
+  pub at-byte : (getD bs i 0 ≡ 10 → ⊥)
+      → bytesRead (reading false o r) (drop i bs)
+      ≡ bytesRead (reading false (orderByte o (getD bs i 0)) r) (drop (i + 1) bs)
   unfolding byteRead
   at-byte e = turn ∙ rw (ne-eqb (getD bs i 0) 10 e)
 
@@ -59,12 +68,14 @@ no-more bs i c h = ap (bytesRead c) (drop-of-length-le bs h)
 
 -- ---- the input as a whole
 
-from-order : (o : OrderLine) (r : Run) (bs : List ℕ) → ended (bytesRead (reading false o r) bs) ≡ message (orderIn (orderBytes o (firstLine bs))) (behindFirst bs)
+from-order : (o : OrderLine) (r : Run) (bs : List ℕ)
+    → ended (bytesRead (reading false o r) bs) ≡ message (orderIn (orderBytes o (firstLine bs))) (behindFirst bs)
 unfolding bytesRead byteRead ended heard firstLine behindFirst orderBytes
 from-order o r [] = parts (orderIn o) []
 from-order o r (b ∷ bs) = go (eqb b 10) (from-order (orderByte o b) r bs)
   where
-    go : (x : Bool) → ended (bytesRead (reading false (orderByte o b) r) bs) ≡ message (orderIn (orderBytes (orderByte o b) (firstLine bs))) (behindFirst bs)
+    go : (x : Bool) → ended (bytesRead (reading false (orderByte o b) r) bs)
+        ≡ message (orderIn (orderBytes (orderByte o b) (firstLine bs))) (behindFirst bs)
         → ended (bytesRead (if x then reading true o (begun (orderIn o)) else reading false (orderByte o b) r) bs)
         ≡ message (orderIn (orderBytes o (if x then [] else b ∷ firstLine bs))) (if x then bs else behindFirst bs)
     go true ih = ap ended (all-heard o (begun (orderIn o)) bs) ∙ parts (orderIn o) bs
@@ -95,10 +106,12 @@ unfolding isKnown ended heard
 known c bs e =
     let p = both (c .ordered) (not (eqb (c .run .song .number) 0)) e in
     let n = not-true (eqb (c .run .song .number) 0) (p .1) in
-    rw (in-log c bs (p .0), p .0) (stays bs (c .run .song) (c .run .line) n ∙ sym (stays [] (c .run .song) (c .run .line) n))
+    rw (in-log c bs (p .0), p .0)
+    (stays bs (c .run .song) (c .run .line) n ∙ sym (stays [] (c .run .song) (c .run .line) n))
 
 -- so the answer that is given at once is that of the whole input
-pub at-once : (ps : List (List ℕ)) (rest : List ℕ) → isKnown (partsRead newReading ps) ≡ true → ended (partsRead newReading ps) ≡ arranged (joined ps ++ rest)
+pub at-once : (ps : List (List ℕ)) (rest : List ℕ) → isKnown (partsRead newReading ps) ≡ true
+    → ended (partsRead newReading ps) ≡ arranged (joined ps ++ rest)
 at-once ps rest e =
     sym (known (partsRead newReading ps) rest e)
     ∙ ap (λ (c : Reading). ended (bytesRead c rest)) (parts-read newReading ps)
@@ -108,8 +121,10 @@ at-once ps rest e =
 -- ---- what is written of it
 
 -- a page that has room for what is put at its start has it whole before the place that is answered
-pub output-written : (ps : List (List ℕ)) (page : List ℕ) (used : ℕ) → take used page ≡ messageOf (ended (partsRead newReading ps)) → take used page ≡ standardOutput (joined ps)
+pub output-written : (ps : List (List ℕ)) (page : List ℕ) (used : ℕ)
+    → take used page ≡ messageOf (ended (partsRead newReading ps)) → take used page ≡ standardOutput (joined ps)
 output-written ps page used e = e ∙ ap messageOf (any-parts ps)
 
-pub error-written : (ps : List (List ℕ)) (page : List ℕ) (used : ℕ) → take used page ≡ writtenLine (ended (partsRead newReading ps)) → take used page ≡ standardError (joined ps)
+pub error-written : (ps : List (List ℕ)) (page : List ℕ) (used : ℕ)
+    → take used page ≡ writtenLine (ended (partsRead newReading ps)) → take used page ≡ standardError (joined ps)
 error-written ps page used e = e ∙ ap writtenLine (any-parts ps)

@@ -16,7 +16,8 @@ use Rattle.fields.specs.Line.{newLine, malformed, kept, isDigit, afterDigit, af
 use Rattle.fields.specs.Fields.{isField, areFields, numberFrom, isNumber, spelled}
 use Rattle.fields.proofs.Numbers.{both, at, kept-digit}
 use Rattle.log_lines.specs.declared.OrderLine.{OrderLine}
-use Rattle.log_lines.specs.LogLines.{orderLine, newOrder, lost, isPut, putAway, orderByte, orderBytes, orderIn, parted, areNumbers, channelIn, fieldsOrder}
+use Rattle.log_lines.specs.LogLines.{orderLine, newOrder, lost, isPut, putAway, orderByte}
+use Rattle.log_lines.specs.LogLines.{orderBytes, orderIn, parted, areNumbers, channelIn, fieldsOrder}
 
 -- there is a place for a number that is put away
 pub has-place : (c : OrderLine) → isPut c ≡ true → c .count < 16
@@ -40,7 +41,9 @@ shut-byte : (c : OrderLine) (b : ℕ) → isOpen c ≡ false → isOpen (orderBy
 unfolding orderByte read afterDigit
 shut-byte c b e = go (eqb b 44) (isDigit b)
   where
-    go : (x d : Bool) → isOpen (if x then putAway c else orderLine (if d then afterDigit (c .number) (b - 48) else (if x && (c .number .digit && ltb (c .number .commas) 2) then afterComma (c .number) else malformed)) (c .count) (c .channels)) ≡ false
+    go : (x d : Bool) → isOpen (if x then putAway c else orderLine (if d then afterDigit (c .number) (b - 48)
+        else (if x && (c .number .digit && ltb (c .number .commas) 2) then afterComma (c .number) else malformed))
+        (c .count) (c .channels)) ≡ false
     go true d = rw (shut c e)
     go false true = e
     go false false = refl
@@ -63,12 +66,14 @@ module _ (k : ℕ) (channels : List ℕ) where
       let h = leb-true 48 x (both (leb 48 x) (leb x 57) e .0) in
       rw (ne-eqb x 44 (λ q. omega arith), e, kept-digit n (x - 48))
 
-  number-read : (d : Bool) (n : ℕ) (xs ys : List ℕ) → numberFrom d xs ≡ true → orderBytes (within d n) (xs ++ ys) ≡ orderBytes (within true (spelled n xs)) ys
+  number-read : (d : Bool) (n : ℕ) (xs ys : List ℕ) → numberFrom d xs ≡ true
+      → orderBytes (within d n) (xs ++ ys) ≡ orderBytes (within true (spelled n xs)) ys
   unfolding numberFrom spelled orderBytes
   number-read d n [] ys e = rw e
   number-read d n (x ∷ xs) ys e =
       let h = both (isDigit x) (numberFrom true xs) e in
-      ap (λ (c : OrderLine). orderBytes c (xs ++ ys)) (digit-read d n x (h .0)) ∙ number-read true (10 * n + (x - 48)) xs ys (h .1)
+      ap (λ (c : OrderLine). orderBytes c (xs ++ ys)) (digit-read d n x (h .0))
+      ∙ number-read true (10 * n + (x - 48)) xs ys (h .1)
 
   -- a field that is no number: at its first byte that is no digit, or, if it is empty, at its end
   empty-read : (n : ℕ) (gs : List (List ℕ)) → orderIn (orderBytes (within false n) (parted gs)) ≡ []
@@ -80,7 +85,8 @@ module _ (k : ℕ) (channels : List ℕ) where
   unfolding orderByte read
   other-read d n x e f = rw (e, f)
 
-  no-number : (d : Bool) (n : ℕ) (f : List ℕ) (gs : List (List ℕ)) → isField f ≡ true → numberFrom d f ≡ false → orderIn (orderBytes (within d n) (f ++ parted gs)) ≡ []
+  no-number : (d : Bool) (n : ℕ) (f : List ℕ) (gs : List (List ℕ)) → isField f ≡ true
+      → numberFrom d f ≡ false → orderIn (orderBytes (within d n) (f ++ parted gs)) ≡ []
   unfolding isField numberFrom orderBytes
   no-number d n [] gs e z = rw z (empty-read n gs)
   no-number d n (x ∷ f) gs e z =
@@ -113,7 +119,8 @@ module _ (k : ℕ) (channels : List ℕ) where
   unfolding at
   too-many d n h = le-ltb k 16 h
 
-  kept-behind : (n : ℕ) → k < 16 → length channels ≡ 16 → take (k + 1) (behind-it n) ≡ take k channels ++ (atMost 255 n ∷ [])
+  kept-behind : (n : ℕ) → k < 16 → length channels ≡ 16
+      → take (k + 1) (behind-it n) ≡ take k channels ++ (atMost 255 n ∷ [])
   kept-behind n h l = rw (add-one k) (take-suc-set channels k (atMost 255 n) (omega arith))
 
 -- ---- the fields
@@ -129,38 +136,49 @@ full k before gs h = rw (lt-leb (k + length gs) 16 h) (go (areNumbers gs))
     go true = refl
     go false = refl
 
-one-more : (k : ℕ) (before : List ℕ) (f g : List ℕ) (gs : List (List ℕ)) → isNumber f ≡ true → orderFrom (k + 1) (before ++ (channelIn f ∷ [])) (g ∷ gs) ≡ orderFrom k before (f ∷ g ∷ gs)
+one-more : (k : ℕ) (before : List ℕ) (f g : List ℕ) (gs : List (List ℕ)) → isNumber f ≡ true
+    → orderFrom (k + 1) (before ++ (channelIn f ∷ [])) (g ∷ gs) ≡ orderFrom k before (f ∷ g ∷ gs)
 unfolding areNumbers
 one-more k before f g gs e =
     let n : k + 1 + suc (length gs) ≡ k + suc (suc (length gs)) = omega arith in
     rw (e, n, append-assoc before (channelIn f ∷ []) (channelIn g ∷ map channelIn gs))
 
 module _ (k : ℕ) (channels : List ℕ) where
-  last-in : (n : ℕ) → k < 16 → length channels ≡ 16 → orderIn (within k channels true n) ≡ take k channels ++ (atMost 255 n ∷ [])
+  last-in : (n : ℕ) → k < 16 → length channels ≡ 16
+      → orderIn (within k channels true n) ≡ take k channels ++ (atMost 255 n ∷ [])
   unfolding orderIn
   last-in n h l = rw (put-number k channels n h, le-leb (k + 1) 16 (omega arith)) (kept-behind k channels n h l)
 
   -- the last field
-  last-read : (f : List ℕ) → length channels ≡ 16 → isField f ≡ true → orderIn (orderBytes (within k channels false 0) (f ++ [])) ≡ orderFrom k (take k channels) (f ∷ [])
+  last-read : (f : List ℕ) → length channels ≡ 16 → isField f ≡ true
+      → orderIn (orderBytes (within k channels false 0) (f ++ [])) ≡ orderFrom k (take k channels) (f ∷ [])
   unfolding areNumbers orderBytes
   last-read f l e = go (isNumber f) (ltb k 16) refl refl
     where
-      go : (b p : Bool) → isNumber f ≡ b → ltb k 16 ≡ p → orderIn (orderBytes (within k channels false 0) (f ++ [])) ≡ (if b && true && leb (k + 1) 16 then take k channels ++ (channelIn f ∷ []) else [])
+      go : (b p : Bool) → isNumber f ≡ b → ltb k 16 ≡ p
+          → orderIn (orderBytes (within k channels false 0) (f ++ []))
+          ≡ (if b && true && leb (k + 1) 16 then take k channels ++ (channelIn f ∷ []) else [])
       go true true z h =
           let n = ltb-true k 16 h in
-          ap orderIn (number-read k channels false 0 f [] z) ∙ rw (le-leb (k + 1) 16 (omega arith)) (last-in (spelled 0 f) n l)
+          ap orderIn (number-read k channels false 0 f [] z)
+          ∙ rw (le-leb (k + 1) 16 (omega arith)) (last-in (spelled 0 f) n l)
       go true false z h =
           let n = ltb-false k 16 h in
-          ap orderIn (number-read k channels false 0 f [] z) ∙ rw (lt-leb (k + 1) 16 (omega arith)) (shut-bytes (within k channels true (spelled 0 f)) [] (too-many k channels true (spelled 0 f) n))
+          ap orderIn (number-read k channels false 0 f [] z)
+          ∙ rw (lt-leb (k + 1) 16 (omega arith))
+          (shut-bytes (within k channels true (spelled 0 f)) [] (too-many k channels true (spelled 0 f) n))
       go false p z h = no-number k channels false 0 f [] e z
 
   -- a field with others behind it: the comma puts its number away
   module _ (f g : List ℕ) (gs : List (List ℕ)) where
-    at-comma : isNumber f ≡ true → orderBytes (within k channels false 0) (f ++ parted (g ∷ gs)) ≡ orderBytes (putAway (within k channels true (spelled 0 f))) (g ++ parted gs)
+    at-comma : isNumber f ≡ true
+        → orderBytes (within k channels false 0) (f ++ parted (g ∷ gs))
+        ≡ orderBytes (putAway (within k channels true (spelled 0 f))) (g ++ parted gs)
     unfolding orderBytes orderByte
     at-comma z = number-read k channels false 0 f (parted (g ∷ gs)) z
 
-    begun-anew : orderLine newLine (k + 1) (behind-it k channels (spelled 0 f)) ≡ within (k + 1) (behind-it k channels (spelled 0 f)) false 0
+    begun-anew : orderLine newLine (k + 1) (behind-it k channels (spelled 0 f))
+        ≡ within (k + 1) (behind-it k channels (spelled 0 f)) false 0
     unfolding at
     begun-anew = refl
 
@@ -169,35 +187,44 @@ module _ (k : ℕ) (channels : List ℕ) where
     no-numbers z = rw z
 
   next-read : (f g : List ℕ) (gs : List (List ℕ)) → length channels ≡ 16 → isField f ≡ true
-      → (k < 16 → orderIn (orderBytes (within (k + 1) (behind-it k channels (spelled 0 f)) false 0) (g ++ parted gs)) ≡ orderFrom (k + 1) (take (k + 1) (behind-it k channels (spelled 0 f))) (g ∷ gs))
-      → orderIn (orderBytes (within k channels false 0) (f ++ parted (g ∷ gs))) ≡ orderFrom k (take k channels) (f ∷ g ∷ gs)
+      → (k < 16 → orderIn (orderBytes (within (k + 1) (behind-it k channels (spelled 0 f)) false 0) (g ++ parted gs))
+      ≡ orderFrom (k + 1) (take (k + 1) (behind-it k channels (spelled 0 f))) (g ∷ gs))
+      → orderIn (orderBytes (within k channels false 0) (f ++ parted (g ∷ gs)))
+      ≡ orderFrom k (take k channels) (f ∷ g ∷ gs)
   next-read f g gs l e ih = go (isNumber f) (ltb k 16) refl refl
     where
-      go : (b p : Bool) → isNumber f ≡ b → ltb k 16 ≡ p → orderIn (orderBytes (within k channels false 0) (f ++ parted (g ∷ gs))) ≡ orderFrom k (take k channels) (f ∷ g ∷ gs)
+      go : (b p : Bool) → isNumber f ≡ b → ltb k 16 ≡ p
+          → orderIn (orderBytes (within k channels false 0) (f ++ parted (g ∷ gs)))
+          ≡ orderFrom k (take k channels) (f ∷ g ∷ gs)
       go true true z h =
           let n = ltb-true k 16 h in
-          ap orderIn (at-comma f g gs z ∙ ap (λ (c : OrderLine). orderBytes c (g ++ parted gs)) (put-number k channels (spelled 0 f) n ∙ begun-anew f g gs))
+          ap orderIn (at-comma f g gs z ∙ ap (λ (c : OrderLine). orderBytes c (g ++ parted gs))
+          (put-number k channels (spelled 0 f) n ∙ begun-anew f g gs))
           ∙ ih n
           ∙ ap (λ (x : List ℕ). orderFrom (k + 1) x (g ∷ gs)) (kept-behind k channels (spelled 0 f) n l)
           ∙ one-more k (take k channels) f g gs z
       go true false z h =
           let n = ltb-false k 16 h in
-          ap orderIn (at-comma f g gs z ∙ ap (λ (c : OrderLine). orderBytes c (g ++ parted gs)) (shut (within k channels true (spelled 0 f)) (too-many k channels true (spelled 0 f) n)))
+          ap orderIn (at-comma f g gs z ∙ ap (λ (c : OrderLine). orderBytes c (g ++ parted gs))
+          (shut (within k channels true (spelled 0 f)) (too-many k channels true (spelled 0 f) n)))
           ∙ shut-bytes lost (g ++ parted gs) refl
           ∙ sym (full k (take k channels) (f ∷ g ∷ gs) (omega arith))
       go false p z h = no-number k channels false 0 f (g ∷ gs) e z ∙ sym (no-numbers f g gs z)
 
-fields-read : (k : ℕ) (channels : List ℕ) (f : List ℕ) (gs : List (List ℕ)) → length channels ≡ 16 → isField f ≡ true → areFields gs ≡ true
+fields-read : (k : ℕ) (channels : List ℕ) (f : List ℕ) (gs : List (List ℕ))
+    → length channels ≡ 16 → isField f ≡ true → areFields gs ≡ true
     → orderIn (orderBytes (within k channels false 0) (f ++ parted gs)) ≡ orderFrom k (take k channels) (f ∷ gs)
 unfolding areFields
 fields-read k channels f [] l e es = last-read k channels f l e
 fields-read k channels f (g ∷ gs) l e es =
     let p = both (isField g) (areFields gs) es in
     next-read k channels f g gs l e
-    (λ h. fields-read (k + 1) (behind-it k channels (spelled 0 f)) g gs (length-set channels k (atMost 255 (spelled 0 f)) ∙ l) (p .0) (p .1))
+    (λ h. fields-read (k + 1) (behind-it k channels (spelled 0 f)) g gs
+    (length-set channels k (atMost 255 (spelled 0 f)) ∙ l) (p .0) (p .1))
 
 -- a line is the order that its fields are
-pub line-order : (f : List ℕ) (gs : List (List ℕ)) → isField f ≡ true → areFields gs ≡ true → orderIn (orderBytes newOrder (f ++ parted gs)) ≡ fieldsOrder (f ∷ gs)
+pub line-order : (f : List ℕ) (gs : List (List ℕ)) → isField f ≡ true → areFields gs ≡ true
+    → orderIn (orderBytes newOrder (f ++ parted gs)) ≡ fieldsOrder (f ∷ gs)
 unfolding fieldsOrder at
 line-order f gs e es =
     let n : 0 + length (f ∷ gs) ≡ length (f ∷ gs) = omega arith in

@@ -14,13 +14,16 @@ use Rattle.arranging.specs.declared.Written.{Written}
 use Rattle.log_lines.specs.LogLines.{writtenLine}
 
 -- a text of at most n bytes stands whole where the page has n bytes from the place on
-pub stands-behind : (n : ℕ) (text : List ℕ) → length text ≤ n → (at used : ℕ) {p q : List ℕ} → Put p at text used q → at + n ≤ length p → take used q ≡ take at p ++ text
+pub stands-behind : (n : ℕ) (text : List ℕ) → length text ≤ n → (at used : ℕ) {p q : List ℕ}
+    → Put p at text used q → at + n ≤ length p → take used q ≡ take at p ++ text
 stands-behind n text l at used {p} {q} put h =
     let w = whole {p = p} {q = q} {t = text} {at = at} {k = used} (omega arith) put in
-    let k : length (take at p ++ text) ≡ used = rw (length-append (take at p) text, length-take at p) (omega (arith, w .0)) in
+    let k : length (take at p ++ text) ≡ used =
+    rw (length-append (take at p) text, length-take at p) (omega (arith, w .0)) in
     rw (w .1) (take-at (take at p ++ text) (drop (at + length text) p) used k)
 
-pub stands-whole : (n : ℕ) (text : List ℕ) → length text ≤ n → (used : ℕ) {p q : List ℕ} → Put p 0 text used q → n ≤ length p → take used q ≡ text
+pub stands-whole : (n : ℕ) (text : List ℕ) → length text ≤ n
+    → (used : ℕ) {p q : List ℕ} → Put p 0 text used q → n ≤ length p → take used q ≡ text
 stands-whole n text l used put h = stands-behind n text l 0 used put (omega arith)
 
 hex-shorter : (b : ℕ) (l : List ℕ) → length (hexadecimals (b ∷ l)) + 1 ≤ 3 * length (b ∷ l)
@@ -32,10 +35,16 @@ message-length : (l : List ℕ) → length l ≡ 38 → length (hexadecimals l) 
 message-length [] e = absurd (omega arith)
 message-length (b ∷ l) e = let h = hex-shorter b l in omega arith
 
-lengths : (a b c : List ℕ) → length a ≤ 3 → length b ≤ 20 → length c ≤ 113 → length (a ++ (44 ∷ b) ++ (44 ∷ c) ++ (10 ∷ [])) ≤ 139
-lengths a b c x y z = rw (length-append (a ++ (44 ∷ b) ++ (44 ∷ c)) (10 ∷ []), length-append (a ++ (44 ∷ b)) (44 ∷ c), length-append a (44 ∷ b)) (omega arith)
+lengths : (a b c : List ℕ) → length a ≤ 3 → length b ≤ 20
+    → length c ≤ 113 → length (a ++ (44 ∷ b) ++ (44 ∷ c) ++ (10 ∷ [])) ≤ 139
+lengths a b c x y z = rw (
+  length-append (a ++ (44 ∷ b) ++ (44 ∷ c)) (10 ∷ []),
+  length-append (a ++ (44 ∷ b)) (44 ∷ c),
+  length-append a (44 ∷ b),
+) (omega arith)
 
-pub line-length : (w : Written) → w .number < 256 → w .line < 18446744073709551616 → length (w .bytes) ≡ 38 → length (writtenLine w) ≤ 139
+pub line-length : (w : Written) → w .number < 256 → w .line < 18446744073709551616
+    → length (w .bytes) ≡ 38 → length (writtenLine w) ≤ 139
 unfolding writtenLine
 line-length w n l b =
     lengths (decimal (w .number)) (decimal (w .line)) (hexadecimals (w .bytes))

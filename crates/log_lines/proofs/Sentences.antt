@@ -15,7 +15,8 @@ use Rattle.fields.proofs.Numbers.{both}
 use Rattle.fields.proofs.Written.{written}
 use Rattle.order.specs.Order.{isOrder}
 use Rattle.arranging.specs.Arranging.{refused, message}
-use Rattle.log_lines.specs.LogLines.{putAway, orderBytes, orderIn, firstLine, behindFirst, arranged, parted, areNumbers, channelIn, fieldsOrder}
+use Rattle.log_lines.specs.LogLines.{putAway, orderBytes, orderIn, firstLine, behindFirst}
+use Rattle.log_lines.specs.LogLines.{arranged, parted, areNumbers, channelIn, fieldsOrder}
 use Rattle.log_lines.proofs.Order.{line-order}
 
 -- ---- the first line, and what stands behind it
@@ -36,9 +37,12 @@ field-line (x ∷ f) ys e h =
 parted-line : (gs : List (List ℕ)) → areFields gs ≡ true → isLine (parted gs) ≡ true
 unfolding areFields
 parted-line [] e = refl
-parted-line (g ∷ gs) e = let p = both (isField g) (areFields gs) e in field-line g (parted gs) (p .0) (parted-line gs (p .1))
+parted-line (g ∷ gs) e =
+    let p = both (isField g) (areFields gs) e in
+    field-line g (parted gs) (p .0) (parted-line gs (p .1))
 
-first-ended : (xs log : List ℕ) → isLine xs ≡ true → (firstLine (xs ++ (10 ∷ log)) ≡ xs) × (behindFirst (xs ++ (10 ∷ log)) ≡ log)
+first-ended : (xs log : List ℕ) → isLine xs ≡ true
+    → (firstLine (xs ++ (10 ∷ log)) ≡ xs) × (behindFirst (xs ++ (10 ∷ log)) ≡ log)
 unfolding firstLine behindFirst
 first-ended [] log e = (refl, refl)
 first-ended (x ∷ xs) log e =
@@ -56,7 +60,8 @@ first-alone (x ∷ xs) e =
 
 behind-parted : (gs : List (List ℕ)) → behind gs ≡ parted gs ++ (10 ∷ [])
 behind-parted [] = refl
-behind-parted (g ∷ gs) = ap (λ (l : List ℕ). 44 ∷ l) (ap (λ (l : List ℕ). g ++ l) (behind-parted gs) ∙ sym (append-assoc g (parted gs) (10 ∷ [])))
+behind-parted (g ∷ gs) = ap (λ (l : List ℕ). 44 ∷ l)
+    (ap (λ (l : List ℕ). g ++ l) (behind-parted gs) ∙ sym (append-assoc g (parted gs) (10 ∷ [])))
 
 -- ---- an input
 
@@ -85,7 +90,8 @@ pub no-order : (log : List ℕ) → message [] log ≡ refused 16 0
 unfolding message isOrder
 no-order log = refl
 
-pub no-numbers : (gs : List (List ℕ)) (log : List ℕ) → areNumbers gs ≡ false → message (fieldsOrder gs) log ≡ refused 16 0
+pub no-numbers : (gs : List (List ℕ)) (log : List ℕ)
+    → areNumbers gs ≡ false → message (fieldsOrder gs) log ≡ refused 16 0
 unfolding fieldsOrder
 no-numbers gs log e = rw e (no-order log)
 
@@ -117,7 +123,8 @@ decimal-number c h =
     go true e = refl
     go false e = let n = ltb-false c 255 e in omega arith
 
-decimals : (cs : List ℕ) → areBytes cs ≡ true → (areNumbers (map decimal cs) ≡ true) × (map channelIn (map decimal cs) ≡ cs)
+decimals : (cs : List ℕ) → areBytes cs ≡ true
+    → (areNumbers (map decimal cs) ≡ true) × (map channelIn (map decimal cs) ≡ cs)
 unfolding areNumbers
 decimals [] e = (refl, refl)
 decimals (c ∷ cs) e =

@@ -25,6 +25,8 @@ pub put-16 : (c : OrderLine) → length (c .channels) ≡ 16 → length (putAway
 unfolding putAway
 put-16 c h = go (isPut c)
   where
-    go : (x : Bool) → length ((if x then orderLine newLine (c .count + 1) (set (c .channels) (c .count) (atMost 255 (c .number .last))) else lost) .channels) ≡ 16
+    go : (x : Bool)
+        → length ((if x then orderLine newLine (c .count + 1)
+        (set (c .channels) (c .count) (atMost 255 (c .number .last))) else lost) .channels) ≡ 16
     go true = length-set (c .channels) (c .count) (atMost 255 (c .number .last)) ∙ h
     go false = refl

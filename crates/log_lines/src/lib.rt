@@ -8,7 +8,8 @@ ghost use mathlib.Core.List.{_++_};
 ghost use lib.ListN.{length, take};
 ghost use Rattle.text.specs.Text.{Put};
 ghost use Rattle.arranging.specs.Run.{begun};
-ghost use Rattle.log_lines.specs.LogLines.{lost, putAway, orderByte, usable, orderIn, reading, newReading, bytesRead, ended, isKnown, messageOf, writtenLine};
+ghost use Rattle.log_lines.specs.LogLines.{lost, putAway, orderByte, usable, orderIn, reading};
+ghost use Rattle.log_lines.specs.LogLines.{newReading, bytesRead, ended, isKnown, messageOf, writtenLine};
 use arranging::Run;
 use arranging::Written;
 use fields::Line;
@@ -196,7 +197,8 @@ pub fn put_message(page: &mut [u8], w: Written) -> usize
 // on, it stands before the place that is answered, whole.
 pub fn put_written(page: &mut [u8], at: usize, w: Written) -> usize
     ensures { λ r. ⌜ Put (now (page .entry)) at (writtenLine w) r (now (page .exit)) ⌝ }
-    ensures { λ r. ⌜ (at + 139 ≤ length (now (page .entry)) → take r (now (page .exit)) ≡ take at (now (page .entry)) ++ writtenLine w) ⌝ }
+    ensures { λ r. ⌜ (at + 139 ≤ length (now (page .entry))
+        → take r (now (page .exit)) ≡ take at (now (page .entry)) ++ writtenLine w) ⌝ }
 {
     let a = put_number(page, at, w.number as u64);
     let b = put(page, a, b",");

@@ -23,7 +23,8 @@ module _ {A : Type 0} (p : A → Bool) (z : A) (n : ℕ) (l : List A) where
   kept-few i h = let a = filter-length p (take i l) in let b = length-take-le i l h in omega arith
 
   -- a turn: the next element goes behind them if it passes, and a blank if not
-  module _ (i m : ℕ) (out : List A) (b : Bool) (h : i < length l) (k : i < n) (t : p (getD l i z) ≡ b) (e : m ≡ length (kept i)) (o : out ≡ padded n z (kept i)) where
+  module _ (i m : ℕ) (out : List A) (b : Bool) (h : i < length l) (k : i < n)
+      (t : p (getD l i z) ≡ b) (e : m ≡ length (kept i)) (o : out ≡ padded n z (kept i)) where
     pub kept-count : m + bit b ≡ length (kept (i + 1))
     kept-count = go b t
       where

@@ -28,14 +28,16 @@ module _ {A : Type 0} (f : ℕ → A) where
       go : (b : Bool) → eqb j n ≡ b → (j < n → getD (upTo f n) j d ≡ f j) → getD (upTo f n ++ (f n ∷ [])) j d ≡ f j
       go true e ih =
           let k : j ≡ n = eqb-true j n e in
-          ap (λ (m : ℕ). getD (upTo f n ++ (f n ∷ [])) m d) (k ∙ sym (length-upTo n)) ∙ getD-append-seam (upTo f n) (f n) [] d ∙ ap f (sym k)
+          ap (λ (m : ℕ). getD (upTo f n ++ (f n ∷ [])) m d) (k ∙ sym (length-upTo n))
+          ∙ getD-append-seam (upTo f n) (f n) [] d ∙ ap f (sym k)
       go false e ih =
           let s = eqb-false j n e in
           let l = length-upTo n in
           List·getD-append (upTo f n) (f n ∷ []) d j (omega arith) ∙ ih (omega arith)
 
   -- a turn of the loop
-  pub fill-next : (d : A) (old out : List A) (i : ℕ) (v : A) → i < length old → out ≡ upTo f i ++ drop i old → v ≡ f i → set out i v ≡ upTo f (i + 1) ++ drop (i + 1) old
+  pub fill-next : (d : A) (old out : List A) (i : ℕ) (v : A) → i < length old
+      → out ≡ upTo f i ++ drop i old → v ≡ f i → set out i v ≡ upTo f (i + 1) ++ drop (i + 1) old
   unfolding upTo
   fill-next d old out i v h p q =
       rw (p, q)

@@ -39,9 +39,11 @@ twice false = refl
 
 module _ (p : ℕ → Bool) (n : ℕ) (none-on : (i : ℕ) → n ≤ i → p i ≡ false) where
   -- the loop's end; k numbers were not looked at
-  pub marks-end : (k : ℕ) → n + k ≡ 256 → (out : List ℕ) → out ≡ upTo (λ i. bit (p i)) n ++ replicate k 0 → out ≡ marksOf p
+  pub marks-end : (k : ℕ) → n + k ≡ 256 → (out : List ℕ)
+      → out ≡ upTo (λ i. bit (p i)) n ++ replicate k 0 → out ≡ marksOf p
   unfolding marksOf
-  marks-end k e out o = o ∙ zeros-on (λ (i : ℕ). bit (p i)) n k (λ i h. ap bit (none-on i h)) ∙ ap (upTo (λ (i : ℕ). bit (p i))) e
+  marks-end k e out o =
+      o ∙ zeros-on (λ (i : ℕ). bit (p i)) n k (λ i h. ap bit (none-on i h)) ∙ ap (upTo (λ (i : ℕ). bit (p i))) e
 
   pub no-mark : n ≤ 256 → (i : ℕ) → eqb (getD (marksOf p) i 0) 0 ≡ not (p i)
   unfolding marksOf

@@ -31,8 +31,12 @@ occurs-filter p h (x ∷ l) = go (eqb x h) (p x) (p h) refl refl refl (occurs-fi
     go : (e a b : Bool) → eqb x h ≡ e → p x ≡ a → p h ≡ b → occurs h (filterBy p l) ≡ (if p h then occurs h l else 0)
         → occurs h (if a then x ∷ filterBy p l else filterBy p l) ≡ (if b then bit e + occurs h l else 0)
     go true true true ee ea eb ih = rw (ee, ih, eb)
-    go true true false ee ea eb ih = let z : _≡_ {A = Bool} true false = sym ea ∙ ap p (eqb-true x h ee) ∙ eb in impossible (cc)
-    go true false true ee ea eb ih = let z : _≡_ {A = Bool} true false = sym eb ∙ ap p (sym (eqb-true x h ee)) ∙ ea in impossible (cc)
+    go true true false ee ea eb ih =
+        let z : _≡_ {A = Bool} true false = sym ea ∙ ap p (eqb-true x h ee) ∙ eb in
+        impossible (cc)
+    go true false true ee ea eb ih =
+        let z : _≡_ {A = Bool} true false = sym eb ∙ ap p (sym (eqb-true x h ee)) ∙ ea in
+        impossible (cc)
     go true false false ee ea eb ih = ih ∙ rw eb
     go false true b ee ea eb ih = rw (ee, ih, eb) (none b)
       where
@@ -52,7 +56,8 @@ unfolding total
 total-one x zero = rw (le-ltb x 0 (omega arith))
 total-one x (suc n) = go (eqb x n) refl (total-one x n)
   where
-    go : (e : Bool) → eqb x n ≡ e → total (λ h. bit (eqb x h)) n ≡ bit (ltb x n) → total (λ h. bit (eqb x h)) n + bit e ≡ bit (ltb x (suc n))
+    go : (e : Bool) → eqb x n ≡ e → total (λ h. bit (eqb x h)) n ≡ bit (ltb x n)
+        → total (λ h. bit (eqb x h)) n + bit e ≡ bit (ltb x (suc n))
     go true ee ih = last (ltb x n) (ltb x (suc n)) refl refl
       where
         last : (a b : Bool) → ltb x n ≡ a → ltb x (suc n) ≡ b → total (λ h. bit (eqb x h)) n + 1 ≡ bit b
@@ -64,7 +69,11 @@ total-one x (suc n) = go (eqb x n) refl (total-one x n)
         last : (a b : Bool) → ltb x n ≡ a → ltb x (suc n) ≡ b → total (λ h. bit (eqb x h)) n + 0 ≡ bit b
         last true true ea eb = rw (ih, ea)
         last true false ea eb = let k = ltb-true x n ea in let m = ltb-false x (suc n) eb in absurd (omega arith)
-        last false true ea eb = let q = eqb-false x n ee in let k = ltb-false x n ea in let m = ltb-true x (suc n) eb in absurd (q (omega arith))
+        last false true ea eb =
+            let q = eqb-false x n ee in
+            let k = ltb-false x n ea in
+            let m = ltb-true x (suc n) eb in
+            absurd (q (omega arith))
         last false false ea eb = rw (ih, ea)
 
 -- where all elements are below n, the occurrences of the numbers below n come to the length
@@ -95,7 +104,8 @@ unfolding total
 total-hole t zero g h e = absurd (omega arith)
 total-hole t (suc n) g h e = go (eqb g n) refl (λ k. total-hole t n g k e)
   where
-    go : (b : Bool) → eqb g n ≡ b → (g < n → total (λ i. bit (t i)) n < n) → total (λ i. bit (t i)) n + bit (t n) < suc n
+    go : (b : Bool) → eqb g n ≡ b → (g < n → total (λ i. bit (t i)) n < n)
+        → total (λ i. bit (t i)) n + bit (t n) < suc n
     go true eb ih =
         let q = eqb-true g n eb in
         let z : bit (t n) ≡ 0 = rw (← q, e) in

@@ -22,7 +22,8 @@ module _ {A : Type 0} (z : A) where
   take-replicate : (k n : ℕ) → k ≤ n → take k (replicate n z) ≡ replicate k z
   take-replicate k n h =
       let e : n ≡ k + (n - k) = omega arith in
-      rw e (ap (λ (l : List A). take k l) (sym (replicate-append-replicate k (n - k) z)) ∙ take-at (replicate k z) (replicate (n - k) z) k (length-replicate k z))
+      rw e (ap (λ (l : List A). take k l) (sym (replicate-append-replicate k (n - k) z))
+      ∙ take-at (replicate k z) (replicate (n - k) z) k (length-replicate k z))
 
   -- the list, and what is left of the places
   pub padded-form : (n k : ℕ) (l : List A) → length l + k ≡ n → padded n z l ≡ l ++ replicate k z
@@ -40,10 +41,12 @@ module _ {A : Type 0} (z : A) where
       length-take-le n (l ++ replicate n z) (omega arith)
 
   pub padded-take : (n : ℕ) (l : List A) → length l ≤ n → take (length l) (padded n z l) ≡ l
-  padded-take n l h = rw (padded-form n (n - length l) l (omega arith)) (take-at l (replicate (n - length l) z) (length l) refl)
+  padded-take n l h =
+      rw (padded-form n (n - length l) l (omega arith)) (take-at l (replicate (n - length l) z) (length l) refl)
 
   -- one element more
-  pub padded-push : (n : ℕ) (l : List A) (x : A) → length l < n → set (padded n z l) (length l) x ≡ padded n z (l ++ (x ∷ []))
+  pub padded-push : (n : ℕ) (l : List A) (x : A) → length l < n
+      → set (padded n z l) (length l) x ≡ padded n z (l ++ (x ∷ []))
   padded-push n l x h =
       let k = n - length l - 1 in
       let m = length-append l (x ∷ []) in

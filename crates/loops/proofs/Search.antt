@@ -15,12 +15,14 @@ use Rattle.loops.specs.Passes.{filterBy, firstOf, count}
 
 module _ {A : Type 0} (p : A → Bool) where
   -- the element at the loop's place passes: it is the answer
-  pub first-yes : (d : A) (l : List A) (i : ℕ) (r : Option A) → i < length l → firstOf p (drop i l) ≡ r → p (getD l i d) ≡ true → some (getD l i d) ≡ r
+  pub first-yes : (d : A) (l : List A) (i : ℕ) (r : Option A) → i < length l
+      → firstOf p (drop i l) ≡ r → p (getD l i d) ≡ true → some (getD l i d) ≡ r
   unfolding firstOf
   first-yes d l i r h e t = rw (drop-cons l i d h, t) at e
 
   -- it does not: the answer is in the rest
-  pub first-no : (d : A) (l : List A) (i : ℕ) (r : Option A) → i < length l → firstOf p (drop i l) ≡ r → p (getD l i d) ≡ false → firstOf p (drop (i + 1) l) ≡ r
+  pub first-no : (d : A) (l : List A) (i : ℕ) (r : Option A) → i < length l
+      → firstOf p (drop i l) ≡ r → p (getD l i d) ≡ false → firstOf p (drop (i + 1) l) ≡ r
   unfolding firstOf
   first-no d l i r h e t = rw add-one (rw (drop-cons l i d h, t) at e)
 
@@ -35,7 +37,8 @@ module _ {A : Type 0} (p : A → Bool) where
   filter-append (x ∷ l) m = go (p x) (filter-append l m)
     where
       go : (b : Bool) → filterBy p (l ++ m) ≡ filterBy p l ++ filterBy p m
-          → (if b then x ∷ filterBy p (l ++ m) else filterBy p (l ++ m)) ≡ (if b then x ∷ filterBy p l else filterBy p l) ++ filterBy p m
+          → (if b then x ∷ filterBy p (l ++ m) else filterBy p (l ++ m))
+          ≡ (if b then x ∷ filterBy p l else filterBy p l) ++ filterBy p m
       go true ih = ap (λ (r : List A). x ∷ r) ih
       go false ih = ih
 
@@ -44,19 +47,23 @@ module _ {A : Type 0} (p : A → Bool) where
   filter-length [] = omega arith
   filter-length (x ∷ l) = go (p x) (filter-length l)
     where
-      go : (b : Bool) → length (filterBy p l) ≤ length l → length (if b then x ∷ filterBy p l else filterBy p l) ≤ length (x ∷ l)
+      go : (b : Bool) → length (filterBy p l) ≤ length l
+          → length (if b then x ∷ filterBy p l else filterBy p l) ≤ length (x ∷ l)
       go true ih = omega arith
       go false ih = omega arith
 
   -- the element at the loop's place is kept
-  pub filter-yes : (d : A) (l : List A) (i : ℕ) → i < length l → p (getD l i d) ≡ true → filterBy p (take (i + 1) l) ≡ filterBy p (take i l) ++ (getD l i d ∷ [])
+  pub filter-yes : (d : A) (l : List A) (i : ℕ) → i < length l → p (getD l i d) ≡ true
+      → filterBy p (take (i + 1) l) ≡ filterBy p (take i l) ++ (getD l i d ∷ [])
   unfolding filterBy
   filter-yes d l i h t = rw (add-one, take-suc l i d h) (filter-append (take i l) (getD l i d ∷ []) ∙ rw t)
 
   -- it is passed over
-  pub filter-no : (d : A) (l : List A) (i : ℕ) → i < length l → p (getD l i d) ≡ false → filterBy p (take (i + 1) l) ≡ filterBy p (take i l)
+  pub filter-no : (d : A) (l : List A) (i : ℕ) → i < length l
+      → p (getD l i d) ≡ false → filterBy p (take (i + 1) l) ≡ filterBy p (take i l)
   unfolding filterBy
-  filter-no d l i h t = rw (add-one, take-suc l i d h) (filter-append (take i l) (getD l i d ∷ []) ∙ rw t (append-nil (filterBy p (take i l))))
+  filter-no d l i h t = rw (add-one, take-suc l i d h)
+      (filter-append (take i l) (getD l i d ∷ []) ∙ rw t (append-nil (filterBy p (take i l))))
 
   pub count-append : (l m : List A) → count p (l ++ m) ≡ count p l + count p m
   unfolding count
@@ -64,12 +71,14 @@ module _ {A : Type 0} (p : A → Bool) where
   count-append (x ∷ l) m = let k = count-append l m in omega arith
 
 -- two tests one after the other are one
-pub filter-filter : {A : Type 0} (p q r : A → Bool) (l : List A) → ((x : A) → (if q x then p x else false) ≡ r x) → filterBy p (filterBy q l) ≡ filterBy r l
+pub filter-filter : {A : Type 0} (p q r : A → Bool) (l : List A)
+    → ((x : A) → (if q x then p x else false) ≡ r x) → filterBy p (filterBy q l) ≡ filterBy r l
 unfolding filterBy
 filter-filter p q r [] h = refl
 filter-filter {A} p q r (x ∷ l) h = go (q x) (p x) (r x) refl refl refl (h x) (filter-filter p q r l h)
   where
-    go : (a b c : Bool) → q x ≡ a → p x ≡ b → r x ≡ c → (if a then b else false) ≡ c → filterBy p (filterBy q l) ≡ filterBy r l
+    go : (a b c : Bool) → q x ≡ a → p x ≡ b → r x ≡ c
+        → (if a then b else false) ≡ c → filterBy p (filterBy q l) ≡ filterBy r l
         → filterBy p (if a then x ∷ filterBy q l else filterBy q l) ≡ (if c then x ∷ filterBy r l else filterBy r l)
     go true true c eq ep er e ih = rw (← e, ep) (ap (λ (m : List A). x ∷ m) ih)
     go true false c eq ep er e ih = rw (← e, ep) ih
@@ -86,13 +95,15 @@ module _ {A : Type 0} (p : A → Bool) (d : A) (l : List A) (n : ℕ) (k : n ≤
   part : length (take n l) ≡ n
   part = length-take-le n l k
 
-  pub part-yes : (i : ℕ) (r : Option A) → i < n → firstOf p (drop i (take n l)) ≡ r → p (getD l i d) ≡ true → some (getD l i d) ≡ r
+  pub part-yes : (i : ℕ) (r : Option A) → i < n → firstOf p (drop i (take n l)) ≡ r
+      → p (getD l i d) ≡ true → some (getD l i d) ≡ r
   part-yes i r h e t =
       let s = part in
       let g = getD-take n l i d h in
       rw g at (first-yes p d (take n l) i r (omega arith) e (rw g t))
 
-  pub part-no : (i : ℕ) (r : Option A) → i < n → firstOf p (drop i (take n l)) ≡ r → p (getD l i d) ≡ false → firstOf p (drop (i + 1) (take n l)) ≡ r
+  pub part-no : (i : ℕ) (r : Option A) → i < n → firstOf p (drop i (take n l)) ≡ r
+      → p (getD l i d) ≡ false → firstOf p (drop (i + 1) (take n l)) ≡ r
   part-no i r h e t = let s = part in first-no p d (take n l) i r (omega arith) e (rw (getD-take n l i d h) t)
 
   pub part-end : (i : ℕ) (r : Option A) → n ≤ i → firstOf p (drop i (take n l)) ≡ r → none ≡ r

@@ -29,7 +29,8 @@ module _ (p : ℕ) (old new : Table) where
   mark = a-mark (isNewlyMasked p old new) 17 no-channel (omega arith)
 
   pub mask-of : (s : Generators)
-      → withStates s (upTo (λ g. if isBusy (at s g) && not (eqb (getD marks (at s g .channel) 0) 0) then 3 else at s g .state) 64)
+      → withStates s
+      (upTo (λ g. if isBusy (at s g) && not (eqb (getD marks (at s g .channel) 0) 0) then 3 else at s g .state) 64)
       ≡ masked p old new s
   unfolding masked
   mask-of s = ap (withStates s) (upTo-same _ _ 64 (λ g k. rw (mark (at s g .channel))))

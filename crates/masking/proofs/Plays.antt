@@ -28,7 +28,9 @@ masked-by p c v [] = refl
 masked-by p c v (e ∷ l) = go (masked-by p c (e .value) l) (leb (e .value) p) (eqb c (e .channel)) refl
   where
     go : isMasked (lookup c (sharesFrom p (e .value) l)) ≡ not (plays p c l) → (b t : Bool) → eqb c (e .channel) ≡ t
-        → isMasked (lookup c (if b then entry (e .channel) (e .value - v) ∷ sharesFrom p (e .value) l else sharesFrom p (e .value) l)) ≡ not ((b && t) || plays p c l)
+        → isMasked (lookup c
+        (if b then entry (e .channel) (e .value - v) ∷ sharesFrom p (e .value) l else sharesFrom p (e .value) l))
+        ≡ not ((b && t) || plays p c l)
     go ih true true q = rw q
     go ih true false q = rw q ih
     go ih false t q = ih
@@ -48,26 +50,32 @@ turn p c k v out x r h e = go (eqb c k) refl (leb v p) e
 module _ (p : ℕ) (l : List Entry) (n : ℕ) where
   -- what holds at turn i
   abbrev pub Marked-to : ℕ → List ℕ → Type 0
-  Marked-to i out = (c : ℕ) → c < 256 → (not (eqb (getD out c 0) 0) || plays p c (drop i (take n l))) ≡ plays p c (take n l)
+  Marked-to i out =
+      (c : ℕ) → c < 256 → (not (eqb (getD out c 0) 0) || plays p c (drop i (take n l))) ≡ plays p c (take n l)
 
   pub marked-none : Marked-to 0 (replicate 256 0)
   marked-none c h = rw (blank {A = ℕ} 0 256 c)
 
   -- k is the channel of the entry at i
-  pub marked-next : (i k x : ℕ) (out : List ℕ) → i < n → n ≤ length l → k ≡ getD l i (entry 0 0) .channel → k < length out
-      → x ≡ (if leb (getD l i (entry 0 0) .value) p then 1 else getD out k 0) → Marked-to i out → Marked-to (i + 1) (set out k x)
+  pub marked-next : (i k x : ℕ) (out : List ℕ) → i < n
+      → n ≤ length l → k ≡ getD l i (entry 0 0) .channel → k < length out
+      → x ≡ (if leb (getD l i (entry 0 0) .value) p then 1 else getD out k 0)
+      → Marked-to i out → Marked-to (i + 1) (set out k x)
   unfolding plays
   marked-next i k x out h few is room e m c s =
       turn p c k (getD l i (entry 0 0) .value) out x (plays p c (drop (i + 1) (take n l))) room e
-      ∙ ap (λ (j : ℕ). not (eqb (getD out c 0) 0) || ((leb (getD l i (entry 0 0) .value) p && eqb c j) || plays p c (drop (i + 1) (take n l)))) is
+      ∙ ap (λ (j : ℕ). not (eqb (getD out c 0) 0)
+      || ((leb (getD l i (entry 0 0) .value) p && eqb c j) || plays p c (drop (i + 1) (take n l)))) is
       ∙ ap (λ (r : List Entry). not (eqb (getD out c 0) 0) || plays p c r) (sym (rest-next l n i h few))
       ∙ m c s
 
-  pub marked-end : (i v : ℕ) (out : List ℕ) → n ≤ i → Marked-to i out → (c : ℕ) → c < 256 → eqb (getD out c 0) 0 ≡ isMasked (lookup c (sharesFrom p v (take n l)))
+  pub marked-end : (i v : ℕ) (out : List ℕ) → n ≤ i → Marked-to i out → (c : ℕ)
+      → c < 256 → eqb (getD out c 0) 0 ≡ isMasked (lookup c (sharesFrom p v (take n l)))
   unfolding plays
   marked-end i v out h m c s =
       twice (eqb (getD out c 0) 0)
-      ∙ ap not (sym (or-false (not (eqb (getD out c 0) 0))) ∙ ap (λ (r : List Entry). not (eqb (getD out c 0) 0) || plays p c r) (sym (rest-end l n i h)) ∙ m c s)
+      ∙ ap not (sym (or-false (not (eqb (getD out c 0) 0)))
+      ∙ ap (λ (r : List Entry). not (eqb (getD out c 0) 0) || plays p c r) (sym (rest-end l n i h)) ∙ m c s)
       ∙ sym (masked-by p c v (take n l))
     where
       twice : (b : Bool) → b ≡ not (not b)

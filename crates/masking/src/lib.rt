@@ -49,7 +49,8 @@ fn marks(polyphony: u8, old: Table, new: Table) -> [u8; 256]
 
 // The states after the busy generators of marked channels were released.
 fn release(state: [u8; 64], channel: [u8; 64], marks: [u8; 256]) -> [u8; 64]
-    ensures { λ r. ⌜ r ≡ upTo (λ g. if isBusy (generator (getD state g 0) 0 0) && not (eqb (getD marks (getD channel g 0) 0) 0) then releasing else getD state g 0) 64 ⌝ }
+    ensures { λ r. ⌜ r ≡ upTo (λ g. if isBusy (generator (getD state g 0) 0 0)
+        && not (eqb (getD marks (getD channel g 0) 0) 0) then releasing else getD state g 0) 64 ⌝ }
 {
     let mut out = state;
     let mut i: usize = 0;

@@ -25,13 +25,15 @@ unfolding listed
 listed-append c [] m = refl
 listed-append c (e ∷ l) m = go (eqb c (e .channel)) (listed-append c l m)
   where
-    go : (b : Bool) → listed c (l ++ m) ≡ listed c l || listed c m → b || listed c (l ++ m) ≡ (b || listed c l) || listed c m
+    go : (b : Bool) → listed c (l ++ m) ≡ listed c l || listed c m
+        → b || listed c (l ++ m) ≡ (b || listed c l) || listed c m
     go true ih = refl
     go false ih = ih
 
 listed-last : (l : List Entry) (e : Entry) → listed (e .channel) (l ++ (e ∷ [])) ≡ true
 unfolding listed
-listed-last l e = listed-append (e .channel) l (e ∷ []) ∙ rw (eq-eqb (e .channel) (e .channel) refl) (go (listed (e .channel) l))
+listed-last l e =
+    listed-append (e .channel) l (e ∷ []) ∙ rw (eq-eqb (e .channel) (e .channel) refl) (go (listed (e .channel) l))
   where
     go : (b : Bool) → b || true ≡ true
     go true = refl
@@ -44,41 +46,52 @@ record Passed (before : List Entry) (v : ℕ) (e : Entry) (l : List Entry) : Typ
   rises : v ≤ e .value
   others : faulty (before ++ (e ∷ [])) (e .value) l ≡ none
 
-passed : (before : List Entry) (v : ℕ) (e : Entry) (l : List Entry) → faulty before v (e ∷ l) ≡ none → Passed before v e l
+passed : (before : List Entry) (v : ℕ) (e : Entry) (l : List Entry)
+    → faulty before v (e ∷ l) ≡ none → Passed before v e l
 unfolding faulty
 passed before v e l h = go (ltb 16 (e .channel)) refl (listed (e .channel) before) refl (ltb (e .value) v) refl h
   where
-    go : (a : Bool) → ltb 16 (e .channel) ≡ a → (b : Bool) → listed (e .channel) before ≡ b → (c : Bool) → ltb (e .value) v ≡ c
-        → (if a then some 7 else if b then some 8 else if c then some 9 else faulty (before ++ (e ∷ [])) (e .value) l) ≡ none → Passed before v e l
+    go : (a : Bool) → ltb 16 (e .channel) ≡ a → (b : Bool)
+        → listed (e .channel) before ≡ b → (c : Bool) → ltb (e .value) v ≡ c
+        → (if a then some 7 else if b then some 8 else if c then some 9 else faulty (before ++ (e ∷ [])) (e .value) l)
+        ≡ none → Passed before v e l
     go true p b q c r h = impossible (cc)
     go false p true q c r h = impossible (cc)
     go false p false q true r h = impossible (cc)
-    go false p false q false r h = record { channel = ltb-false 16 (e .channel) p; fresh = q; rises = ltb-false (e .value) v r; others = h }
+    go false p false q false r h =
+        record { channel = ltb-false 16 (e .channel) p; fresh = q; rises = ltb-false (e .value) v r; others = h }
 
 absurd-tests : {A : Type 0} (b : Bool) → b ≡ true → b ≡ false → A
 absurd-tests b t f = impossible (cc)
 
 -- a channel that stands before is not among the pairs
-apart : (c : ℕ) (before : List Entry) (v : ℕ) (l : List Entry) → faulty before v l ≡ none → listed c before ≡ true → listed c l ≡ false
+apart : (c : ℕ) (before : List Entry) (v : ℕ) (l : List Entry)
+    → faulty before v l ≡ none → listed c before ≡ true → listed c l ≡ false
 unfolding listed
 apart c before v [] h t = refl
 apart c before v (e ∷ l) h t =
     let p = passed before v e l h in
-    go (eqb c (e .channel)) refl (p .fresh) (apart c (before ++ (e ∷ [])) (e .value) l (p .others) (listed-append c before (e ∷ []) ∙ rw t))
+    go (eqb c (e .channel)) refl (p .fresh)
+    (apart c (before ++ (e ∷ [])) (e .value) l (p .others) (listed-append c before (e ∷ []) ∙ rw t))
   where
-    go : (b : Bool) → eqb c (e .channel) ≡ b → listed (e .channel) before ≡ false → listed c l ≡ false → b || listed c l ≡ false
+    go : (b : Bool) → eqb c (e .channel) ≡ b → listed (e .channel) before ≡ false
+        → listed c l ≡ false → b || listed c l ≡ false
     go true q f ih = absurd-tests (listed c before) t (ap (λ (x : ℕ). listed x before) (eqb-true c (e .channel) q) ∙ f)
     go false q f ih = ih
 
 rising : (before : List Entry) (v : ℕ) (l : List Entry) → faulty before v l ≡ none → Rising v l
 rising before v [] h = tt
-rising before v (e ∷ l) h = let p = passed before v e l h in (p .rises, rising (before ++ (e ∷ [])) (e .value) l (p .others))
+rising before v (e ∷ l) h =
+    let p = passed before v e l h in
+    (p .rises, rising (before ++ (e ∷ [])) (e .value) l (p .others))
 
 distinct : (before : List Entry) (v : ℕ) (l : List Entry) → faulty before v l ≡ none → Distinct l
 distinct before v [] h = tt
 distinct before v (e ∷ l) h =
-    let p = passed before v e l h in
-    (apart (e .channel) (before ++ (e ∷ [])) (e .value) l (p .others) (listed-last before e), distinct (before ++ (e ∷ [])) (e .value) l (p .others))
+    let p = passed before v e l h in (
+      apart (e .channel) (before ++ (e ∷ [])) (e .value) l (p .others) (listed-last before e),
+      distinct (before ++ (e ∷ [])) (e .value) l (p .others),
+    )
 
 -- each is at least channel 1, as mm is at least 0
 channels : (before : List Entry) (v : ℕ) (l : List ℕ) → faulty before v (pairs l) ≡ none → Channels (pairs l)
@@ -107,9 +120,11 @@ well-formed l h n = record {
 
 pub accepted : (l : List ℕ) → judged l .verdict ≡ Accepted → AcceptedTable l
 unfolding judged
-accepted l h = go (ltb 32 (length l)) refl (eqb (length l) 0 || eqb (length l % 2) 1) refl (faulty [] 0 (pairs l)) refl h
+accepted l h =
+    go (ltb 32 (length l)) refl (eqb (length l) 0 || eqb (length l % 2) 1) refl (faulty [] 0 (pairs l)) refl h
   where
-    go : (a : Bool) → ltb 32 (length l) ≡ a → (b : Bool) → eqb (length l) 0 || eqb (length l % 2) 1 ≡ b → (o : Option ℕ) → faulty [] 0 (pairs l) ≡ o
+    go : (a : Bool) → ltb 32 (length l) ≡ a → (b : Bool)
+        → eqb (length l) 0 || eqb (length l % 2) 1 ≡ b → (o : Option ℕ) → faulty [] 0 (pairs l) ≡ o
         → (if a then refused 5 else if b then refused 6 else judgedBy (pairs l) o) .verdict ≡ Accepted → AcceptedTable l
     go true p b q o r h = impossible (cc)
     go false p true q o r h = impossible (cc)

@@ -19,10 +19,12 @@ module _ (n : ℕ) (l : List ℕ) (size : length l ≡ 37) where
       rw (lt-ltb 32 (length (drop 4 (take n l))) k)
 
   -- none, or an odd number
-  uneven : n ≤ 36 → eqb (length (drop 4 (take n l))) 0 || eqb (length (drop 4 (take n l)) % 2) 1 ≡ leb n 4 || eqb (n % 2) 1
+  uneven : n ≤ 36
+      → eqb (length (drop 4 (take n l))) 0 || eqb (length (drop 4 (take n l)) % 2) 1 ≡ leb n 4 || eqb (n % 2) 1
   uneven h = rw (length-drop, length-take) (go (leb n 4) refl)
     where
-      go : (b : Bool) → leb n 4 ≡ b → eqb (min n (length l) - 4) 0 || eqb ((min n (length l) - 4) % 2) 1 ≡ b || eqb (n % 2) 1
+      go : (b : Bool) → leb n 4 ≡ b
+          → eqb (min n (length l) - 4) 0 || eqb ((min n (length l) - 4) % 2) 1 ≡ b || eqb (n % 2) 1
       go true t = let k = leb-true n 4 t in rw (eq-eqb (min n (length l) - 4) 0 (omega arith))
       go false t =
           let k = leb-false n 4 t in
@@ -39,6 +41,7 @@ module _ (n : ℕ) (l : List ℕ) (size : length l ≡ 37) where
     unfolding judged
     none-or-odd t = rw (short, uneven h ∙ t)
 
-    pub all-pairs : leb n 4 || eqb (n % 2) 1 ≡ false → judgedPairs (pairs (drop 4 (take n l))) ≡ judged (drop 4 (take n l))
+    pub all-pairs : leb n 4 || eqb (n % 2) 1 ≡ false
+        → judgedPairs (pairs (drop 4 (take n l))) ≡ judged (drop 4 (take n l))
     unfolding judged
     all-pairs t = rw (short, uneven h ∙ t)

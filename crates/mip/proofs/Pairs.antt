@@ -27,7 +27,14 @@ module _ (l : List ℕ) (n i : ℕ) where
   pairs-next h k =
       let s : suc i < length (take n l) = rw length-take (omega arith) in
       let t : i + 2 ≡ suc (suc i) = omega arith in
-      rw (drop-cons (take n l) i 0 (omega arith), drop-cons (take n l) (suc i) 0 s, t, add-one i, getD-take n l i 0 (omega arith), getD-take n l (suc i) 0 (omega arith))
+      rw (
+        drop-cons (take n l) i 0 (omega arith),
+        drop-cons (take n l) (suc i) 0 s,
+        t,
+        add-one i,
+        getD-take n l i 0 (omega arith),
+        getD-take n l (suc i) 0 (omega arith),
+      )
 
   -- at most one byte is left
   pub pairs-end : n ≤ i + 1 → pairs (drop i (take n l)) ≡ []
@@ -73,10 +80,13 @@ module _ (l : List ℕ) (n i v : ℕ) (before : List Entry) (all : Judged) (h : 
   module _ (a : getD l i 0 ≤ 15) (b : listed (getD l i 0 + 1) before ≡ false) where
     pub value-falls : getD l (i + 1) 0 < v → refused 9 ≡ all
     unfolding faulty
-    value-falls c = rw (pairs-next l n i h k, le-ltb 16 (getD l i 0 + 1) (omega arith), b, lt-ltb (getD l (i + 1) 0) v c) at so
+    value-falls c =
+        rw (pairs-next l n i h k, le-ltb 16 (getD l i 0 + 1) (omega arith), b, lt-ltb (getD l (i + 1) 0) v c) at so
 
-    pub good-pair : v ≤ getD l (i + 1) 0 → (after : List Entry) → after ≡ before ++ (entry (getD l i 0 + 1) (getD l (i + 1) 0) ∷ [])
-        → judgedBy (after ++ pairs (drop (i + 2) (take n l))) (faulty after (getD l (i + 1) 0) (pairs (drop (i + 2) (take n l)))) ≡ all
+    pub good-pair : v ≤ getD l (i + 1) 0 → (after : List Entry)
+        → after ≡ before ++ (entry (getD l i 0 + 1) (getD l (i + 1) 0) ∷ [])
+        → judgedBy (after ++ pairs (drop (i + 2) (take n l)))
+        (faulty after (getD l (i + 1) 0) (pairs (drop (i + 2) (take n l)))) ≡ all
     unfolding faulty
     good-pair c after q =
         rw (q, append-assoc)
@@ -84,7 +94,9 @@ module _ (l : List ℕ) (n i v : ℕ) (before : List Entry) (all : Judged) (h : 
 
 -- no pair is left
 pub no-pair : (l : List ℕ) (n i v : ℕ) (t : Table) (all : Judged) → n ≤ i + 1 → t ≡ tableOf (entriesOf t)
-    → judgedBy (entriesOf t ++ pairs (drop i (take n l))) (faulty (entriesOf t) v (pairs (drop i (take n l)))) ≡ all → record { verdict = Accepted; table = t } ≡ all
+    → judgedBy (entriesOf t ++ pairs (drop i (take n l))) (faulty (entriesOf t) v (pairs (drop i (take n l)))) ≡ all
+    → record { verdict = Accepted; table = t } ≡ all
 unfolding faulty
 no-pair l n i v t all h s so =
-    ap (λ (u : Table). record { verdict = Accepted; table = u }) s ∙ (rw (pairs-end l n i h, append-nil (entriesOf t)) at so)
+    ap (λ (u : Table). record { verdict = Accepted; table = u }) s
+    ∙ (rw (pairs-end l n i h, append-nil (entriesOf t)) at so)

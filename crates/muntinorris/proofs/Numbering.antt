@@ -27,11 +27,15 @@ module _ {M : Type 1} (𝓤 : URA M) (H : Heap 𝓤) (A : Atoms 𝓤) (at-mem : 
   abbrev pub Numbering : Contract 𝓤
   Numbering = tripleOf 𝓤 H A numbers.signature (numbers.spec 𝓤 H A at-mem run)
 
-  pub numbers-of : (a : Answer) (r : AnswerNumbers) → ent 𝓤 (ensured 𝓤 H A numbers.ended (numbers.clauses 𝓤 H A at-mem run) tt (a, tt) tt r) (fact 𝓤 (r ≡ numbersOf a))
+  pub numbers-of : (a : Answer) (r : AnswerNumbers)
+      → ent 𝓤 (ensured 𝓤 H A numbers.ended (numbers.clauses 𝓤 H A at-mem run) tt (a, tt) tt r)
+      (fact 𝓤 (r ≡ numbersOf a))
   numbers-of a r = clause 𝓤 H A numbers.ended tt (a, tt) (r ≡ numbersOf a)
 
   abbrev pub to-numbers : Answer → Val → Numbering .Ghost
   to-numbers a v = ((tt, tt, tt, (a, tt), (v ∷ [], tt)), tt)
 
-  pub goes-numbers : Given 𝓤 H A → (a : Answer) (v : Val) → ent 𝓤 (sem 𝓤 H A (N.the-row .own a (v ∷ []))) (Numbering .pre (to-numbers a v))
-  goes-numbers W a v = qed W (‵ (N.the-row .own a (v ∷ [])) ∷ []) ∵ nothing ! $ move ! (1 ∷ 0 ∷ []) $ join ! $ nothing ! $ join ! $ frame ! $ done !
+  pub goes-numbers : Given 𝓤 H A → (a : Answer) (v : Val)
+      → ent 𝓤 (sem 𝓤 H A (N.the-row .own a (v ∷ []))) (Numbering .pre (to-numbers a v))
+  goes-numbers W a v = qed W (‵ (N.the-row .own a (v ∷ [])) ∷ []) ∵
+      nothing ! $ move ! (1 ∷ 0 ∷ []) $ join ! $ nothing ! $ join ! $ frame ! $ done !

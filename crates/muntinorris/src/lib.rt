@@ -12,7 +12,8 @@ ghost use Rattle.pitch.specs.Pitch.{pitchOf};
 ghost use Rattle.song.specs.Song.{songAnswer, songWritten};
 ghost use Rattle.arranging.specs.Arranging.{message};
 ghost use Rattle.arranging.specs.Run.{heard, begun, finished};
-ghost use Rattle.numbers.specs.Numbers.{numbersOf, generatorNumbers, maskNumbers, shareNumbers, pitchNumbers, GainsTold, GainsToldOf, songNumbers};
+ghost use Rattle.numbers.specs.Numbers.{numbersOf, generatorNumbers, maskNumbers, shareNumbers};
+ghost use Rattle.numbers.specs.Numbers.{pitchNumbers, GainsTold, GainsToldOf, songNumbers};
 use arranging::Run;
 use arranging::Written;
 use channels::Channel;
@@ -38,7 +39,8 @@ pub extern "C" fn muntinorris_start(d: &mut Device, polyphony: u8, id: u8) -> An
 // A MIDI byte.
 #[no_mangle]
 pub extern "C" fn muntinorris_byte(d: &mut Device, byte: u8) -> AnswerNumbers
-    ensures { λ r. ⌜ (r ≡ numbersOf (taken (now (d .entry)) (Byte byte) .answer)) × (now (d .exit) ≡ taken (now (d .entry)) (Byte byte) .device) ⌝ }
+    ensures { λ r. ⌜ (r ≡ numbersOf (taken (now (d .entry)) (Byte byte) .answer))
+        × (now (d .exit) ≡ taken (now (d .entry)) (Byte byte) .device) ⌝ }
 {
     numbers::answer_numbers(driver::byte(d, byte))
 }
@@ -46,7 +48,8 @@ pub extern "C" fn muntinorris_byte(d: &mut Device, byte: u8) -> AnswerNumbers
 // A generator has rung out (R7.1).
 #[no_mangle]
 pub extern "C" fn muntinorris_report(d: &mut Device, generator: u8) -> AnswerNumbers
-    ensures { λ r. ⌜ (r ≡ numbersOf (taken (now (d .entry)) (Report generator) .answer)) × (now (d .exit) ≡ taken (now (d .entry)) (Report generator) .device) ⌝ }
+    ensures { λ r. ⌜ (r ≡ numbersOf (taken (now (d .entry)) (Report generator) .answer))
+        × (now (d .exit) ≡ taken (now (d .entry)) (Report generator) .device) ⌝ }
 {
     numbers::answer_numbers(driver_reports::report(d, generator))
 }
@@ -78,7 +81,8 @@ pub extern "C" fn muntinorris_share(d: &Device, channel: u8) -> ShareNumbers
 // The service page, in the first 323 bytes of the lent buffer: 0, or 18 for a buffer that has fewer.
 #[no_mangle]
 pub extern "C" fn muntinorris_page(d: &Device, page: &mut [u8]) -> u8
-    ensures { λ r. ⌜ (r ≡ orZero (pageNumber (pageAnswer (now (page .entry))))) × (now (page .exit) ≡ pageAfter (now (d .entry)) (now (page .entry))) ⌝ }
+    ensures { λ r. ⌜ (r ≡ orZero (pageNumber (pageAnswer (now (page .entry)))))
+        × (now (page .exit) ≡ pageAfter (now (d .entry)) (now (page .entry))) ⌝ }
 {
     numbers::page_number(*d, page)
 }
@@ -111,7 +115,8 @@ pub extern "C" fn muntinorris_channel_gains(c: &Channel) -> GainNumbers
 // written.
 #[no_mangle]
 pub extern "C" fn muntinorris_write_song(polyphony: u8, n: usize, song: &mut [u8]) -> SongNumbers
-    ensures { λ r. ⌜ (r ≡ songNumbers (songAnswer polyphony n (now (song .entry)))) × (now (song .exit) ≡ songWritten polyphony n (now (song .entry))) ⌝ }
+    ensures { λ r. ⌜ (r ≡ songNumbers (songAnswer polyphony n (now (song .entry))))
+        × (now (song .exit) ≡ songWritten polyphony n (now (song .entry))) ⌝ }
 {
     numbers::song_numbers(song::write_song(polyphony, n, song))
 }
@@ -130,7 +135,8 @@ pub extern "C" fn muntinorris_log_begin(log: &mut Run, order: &[u8]) -> u8
 // A part of the log. The number that has fallen so far, or 0.
 #[no_mangle]
 pub extern "C" fn muntinorris_log_part(log: &mut Run, part: &[u8]) -> u8
-    ensures { λ r. ⌜ (r ≡ heard (now (log .entry)) (now (part .entry)) .song .number) × (now (log .exit) ≡ heard (now (log .entry)) (now (part .entry))) ⌝ }
+    ensures { λ r. ⌜ (r ≡ heard (now (log .entry)) (now (part .entry)) .song .number)
+        × (now (log .exit) ≡ heard (now (log .entry)) (now (part .entry))) ⌝ }
 {
     let next = arranging::take(*log, part);
     *log = next;

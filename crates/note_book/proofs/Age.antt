@@ -17,7 +17,8 @@ use Rattle.releases.specs.declared.Change.the-variants as change
 use Rattle.releases.specs.Releases.{changed}
 use Rattle.silence.specs.declared.Leaving.the-variants as leaving
 use Rattle.silence.specs.Silence.{silenced}
-use Rattle.age_law.proofs.Assigned.{Ordered, Follows, follows-restated, follows-changed, follows-silenced, follows-silent}
+use Rattle.age_law.proofs.Assigned.{Ordered, Follows, follows-restated}
+use Rattle.age_law.proofs.Assigned.{follows-changed, follows-silenced, follows-silent}
 use Rattle.instrument.specs.declared.Instrument.{Instrument}
 use Rattle.instrument.specs.Instrument.{fresh, withChannel, withGenerators}
 use Rattle.instrument.specs.Instrument as of-instrument
@@ -34,14 +35,16 @@ use Rattle.note_book.specs.Claim.{System, after}
 use Rattle.note_book.specs.Age.{named, byAnswers, AgeByAnswers}
 use Rattle.note_book.proofs.Matches.{Matches, note-law}
 use Rattle.note_book.proofs.Steps.{gives-way, way-busy}
-use Rattle.note_book.proofs.Run.{Right, right-nothing, right-message, right-table, right-reset, right-report, Lawful, Fine, fine-next}
+use Rattle.note_book.proofs.Run.{Right, right-nothing, right-message, right-table}
+use Rattle.note_book.proofs.Run.{right-reset, right-report, Lawful, Fine, fine-next}
 
 module _ (i : Instrument) (o : Ordered (i .generators)) (l : List ℕ) (f : Follows (i .generators) l) where
   follows-off : (c k : ℕ) → Follows (playNoteOff i c k .generators) l
   unfolding playNoteOff
   follows-off c k = go (of-instrument.isRhythm i c)
     where
-      go : (r : Bool) → Follows ((if r then i else withGenerators i (changed (change.NoteOff (of-instrument.pedalDown i c) c k) (i .generators))) .generators) l
+      go : (r : Bool) → Follows ((if r then i else withGenerators i
+          (changed (change.NoteOff (of-instrument.pedalDown i c) c k) (i .generators))) .generators) l
       go true = f
       go false = follows-changed (change.NoteOff (of-instrument.pedalDown i c) c k) (i .generators) o l f
 
@@ -57,15 +60,18 @@ module _ (i : Instrument) (o : Ordered (i .generators)) (l : List ℕ) (f : Foll
 
   follows-table : (t : Table) → Follows (newTable i t .generators) l
   unfolding newTable masked
-  follows-table t = follows-restated (i .generators) o (gives-way (i .polyphony) (i .table) t) 3 (way-busy (i .polyphony) (i .table) t) refl l f
+  follows-table t = follows-restated (i .generators) o
+      (gives-way (i .polyphony) (i .table) t) 3 (way-busy (i .polyphony) (i .table) t) refl l f
 
   follows-report : (g : ℕ) → Follows (reported i g .instrument .generators) (named l (reported i g .answer))
   unfolding reported
   follows-report g = go (leb (i .polyphony) g) (isIdle (at (i .generators) g))
     where
       go : (x y : Bool)
-          → Follows ((if x then replied (Number 12) i else if y then replied (Number 13) i else replied Done (withGenerators i (silenced (leaving.One g) (i .generators)))) .instrument .generators)
-          (named l ((if x then replied (Number 12) i else if y then replied (Number 13) i else replied Done (withGenerators i (silenced (leaving.One g) (i .generators)))) .answer))
+          → Follows ((if x then replied (Number 12) i else if y then replied (Number 13) i
+          else replied Done (withGenerators i (silenced (leaving.One g) (i .generators)))) .instrument .generators)
+          (named l ((if x then replied (Number 12) i else if y then replied (Number 13) i
+          else replied Done (withGenerators i (silenced (leaving.One g) (i .generators)))) .answer))
       go true y = f
       go false true = f
       go false false = follows-silenced (leaving.One g) (i .generators) o l f
@@ -79,7 +85,8 @@ after-reset : (p id : ℕ) (l : List ℕ) → Follows (fresh p id .generators) l
 unfolding fresh
 after-reset p id l = follows-silent l
 
-step : (i j : Instrument) (b : Book) (h : Heard) (a : Answer) → Right i b h a j → Matches i b → (l : List ℕ) → Follows (i .generators) l → Follows (j .generators) (named l a)
+step : (i j : Instrument) (b : Book) (h : Heard) (a : Answer) → Right i b h a j → Matches i b
+    → (l : List ℕ) → Follows (i .generators) l → Follows (j .generators) (named l a)
 unfolding played withChannel
 step i j b h a (right-nothing x n) m l f = subst (Follows (i .generators)) (sym (n l)) f
 step i j b h a (right-message (NoteOn c k) s) m l f = note-law i b m c k .follows l f
@@ -93,13 +100,16 @@ step i j b h a right-reset m l f = after-reset (i .polyphony) (i .id) l
 step i j b h a (right-report g) m l f = follows-report i (m .playable .ordered) l f g
 
 module _ (S : System) (L : Lawful S) where
-  by-answers : (s : S .State) → Fine S L s → (l : List ℕ) → Follows (S .instrument s .generators) l → (es : List (S .Event))
+  by-answers : (s : S .State) → Fine S L s → (l : List ℕ)
+      → Follows (S .instrument s .generators) l → (es : List (S .Event))
       → Follows (S .instrument (after S s es) .generators) (byAnswers S l s es)
   unfolding after
   by-answers s f l q [] = q
   by-answers s f l q (e ∷ es) =
       by-answers (S .next s e) (fine-next S L s f e) (named l (S .answer s e))
-      (step (S .instrument s) (S .instrument (S .next s e)) (S .book s) (S .hears s e) (S .answer s e) (L .right s e (f .is) (f .matches)) (f .matches) l q) es
+      (step (S .instrument s) (S .instrument (S .next s e)) (S .book s) (S .hears s e)
+      (S .answer s e) (L .right s e (f .is) (f .matches)) (f .matches) l q) es
 
-  pub age-by-answers : (s : S .State) → Fine S L s → Follows (S .instrument s .generators) [] → (es : List (S .Event)) → AgeByAnswers S s es
+  pub age-by-answers : (s : S .State) → Fine S L s
+      → Follows (S .instrument s .generators) [] → (es : List (S .Event)) → AgeByAnswers S s es
   age-by-answers s f q es = by-answers s f [] q es

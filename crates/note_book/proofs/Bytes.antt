@@ -38,11 +38,13 @@ use Rattle.exclusive.specs.Exclusive as of-exclusive
 use Rattle.events.specs.declared.Event.{Event}
 use Rattle.events.specs.declared.Event.the-variants.{Byte, Report}
 use Rattle.events.specs.Events.{reportTaken, taken}
-use Rattle.note_book.specs.Book.{Book, freshBook, startBook, nothing, newTable, isDone, exclusiveHeard, completedHeard}
+use Rattle.note_book.specs.Book.{Book, freshBook, startBook, nothing, newTable}
+use Rattle.note_book.specs.Book.{isDone, exclusiveHeard, completedHeard}
 use Rattle.note_book.specs.Claim.{Both, Live, begin}
 use Rattle.note_book.proofs.Matches.{Matches}
 use Rattle.note_book.proofs.Steps.{IsSent, step-fresh}
-use Rattle.note_book.proofs.Run.{Right, right-nothing, right-message, right-table, right-reset, right-report, Lawful, Fine}
+use Rattle.note_book.proofs.Run.{Right, right-nothing, right-message, right-table}
+use Rattle.note_book.proofs.Run.{right-reset, right-report, Lawful, Fine}
 use Rattle.note_book.proofs.Age.{nothing-sounds}
 
 -- ---- messages
@@ -62,15 +64,18 @@ decode-sent s a b =
 
 module _ (i : Instrument) (b : Book) (l : List ℕ) where
   mip-right : (v : Verdict) → judged (drop 4 l) .verdict ≡ v
-      → Right i b (if isDone (judgedReply i v (judged (drop 4 l) .table) .answer) then newTable (pairs (drop 4 l)) else nothing)
+      → Right i b
+      (if isDone (judgedReply i v (judged (drop 4 l) .table) .answer) then newTable (pairs (drop 4 l)) else nothing)
       (judgedReply i v (judged (drop 4 l) .table) .answer) (judgedReply i v (judged (drop 4 l) .table) .instrument)
   mip-right Accepted e =
       let t = accepted (drop 4 l) e in
-      subst (λ (x : List Entry). Right i b (newTable x) answer.Done (of-exclusive.newTable i (judged (drop 4 l) .table))) (t .entries)
+      subst (λ (x : List Entry). Right i b (newTable x) answer.Done
+      (of-exclusive.newTable i (judged (drop 4 l) .table))) (t .entries)
       (right-table (judged (drop 4 l) .table) (subst WellFormed (sym (t .entries)) (t .well-formed)))
   mip-right (Refused n) e = right-nothing (answer.Number n) (λ m. refl)
 
-  kind-right : (k : Kind) → Right i b (if isDone (kindReply i l k .answer) then exclusiveHeard l k else nothing) (kindReply i l k .answer) (kindReply i l k .instrument)
+  kind-right : (k : Kind) → Right i b (if isDone (kindReply i l k .answer) then exclusiveHeard l k else nothing)
+      (kindReply i l k .answer) (kindReply i l k .instrument)
   unfolding mipTaken
   kind-right kind.Mip = mip-right (judged (drop 4 l) .verdict) refl
   kind-right kind.SystemOn = right-reset
@@ -78,7 +83,8 @@ module _ (i : Instrument) (b : Book) (l : List ℕ) where
 
 -- ---- the splitting lemma
 
-completed-right : (i : Instrument) (b : Book) (p : Parser) (c : Completed) → Right i b (completedHeard (i .id) p c (heard i p c .answer)) (heard i p c .answer) (heard i p c .instrument)
+completed-right : (i : Instrument) (b : Book) (p : Parser) (c : Completed)
+    → Right i b (completedHeard (i .id) p c (heard i p c .answer)) (heard i p c .answer) (heard i p c .instrument)
 unfolding heard exclusive
 completed-right i b p completed.Nothing = right-nothing answer.Nothing (λ m. refl)
 completed-right i b p completed.Stray = right-nothing (answer.Number 3) (λ m. refl)
@@ -97,8 +103,10 @@ live-right s (Byte x) y m =
     let b = s .book in
     let p = s .device .parser in
     let r = heard i p (split p x .completed) in
-    subst (λ (q : Parser). Right i b (completedHeard (b .id) q (split q x .completed) (r .answer)) (r .answer) (r .instrument)) y
-    (subst (λ (n : ℕ). Right i b (completedHeard n p (split p x .completed) (r .answer)) (r .answer) (r .instrument)) (m .id) (completed-right i b p (split p x .completed)))
+    subst (λ (q : Parser). Right i b
+    (completedHeard (b .id) q (split q x .completed) (r .answer)) (r .answer) (r .instrument)) y
+    (subst (λ (n : ℕ). Right i b (completedHeard n p (split p x .completed) (r .answer)) (r .answer) (r .instrument))
+    (m .id) (completed-right i b p (split p x .completed)))
 live-right s (Report g) y m = right-report g
 
 synced-next : (s : Both) (e : Event) → Synced s → Synced (Live .next s e)
@@ -127,7 +135,8 @@ fine-begin p id = go (ltb p 1 || ltb 64 p) refl (ltb 126 id)
     begun o = record { device = o .device; splitter = quiet; book = startBook p id (o .answer) }
 
     go : (x : Bool) → ltb p 1 || ltb 64 p ≡ x → (y : Bool)
-        → Fine Live lawful (begun (if x then freshOutput (answer.Number 1) 1 0 else if y then freshOutput (answer.Number 2) 1 0 else freshOutput answer.Done p id))
+        → Fine Live lawful (begun (if x then freshOutput (answer.Number 1) 1 0
+        else if y then freshOutput (answer.Number 2) 1 0 else freshOutput answer.Done p id))
     go true e y = fine-fresh 1 0 (omega arith)
     go false e true = fine-fresh 1 0 (omega arith)
     go false e false = fine-fresh p id (ltb-false 64 p (or-right (ltb p 1) (ltb 64 p) e))
@@ -137,7 +146,8 @@ unfolding started
 silent-begin p id = go (ltb p 1 || ltb 64 p) (ltb 126 id)
   where
     go : (x y : Bool)
-        → Follows ((if x then freshOutput (answer.Number 1) 1 0 else if y then freshOutput (answer.Number 2) 1 0 else freshOutput answer.Done p id) .device .instrument .generators) []
+        → Follows ((if x then freshOutput (answer.Number 1) 1 0 else if y then freshOutput (answer.Number 2) 1 0
+        else freshOutput answer.Done p id) .device .instrument .generators) []
     go true y = nothing-sounds 1 0
     go false true = nothing-sounds 1 0
     go false false = nothing-sounds p id

@@ -49,7 +49,8 @@ unfolding firstOf count
 first-law f [] = no-one (λ g h. absurd (omega arith))
 first-law f (x ∷ l) = go (f x) refl (firstOf f l) (first-law f l)
   where
-    more : (g : ℕ) → f x ≡ false → (1 ≤ occurs g l → f g ≡ false) → (b : Bool) → eqb x g ≡ b → 1 ≤ bit b + occurs g l → f g ≡ false
+    more : (g : ℕ) → f x ≡ false → (1 ≤ occurs g l → f g ≡ false)
+        → (b : Bool) → eqb x g ≡ b → 1 ≤ bit b + occurs g l → f g ≡ false
     more g e h true q k = ap f (sym (eqb-true x g q)) ∙ e
     more g e h false q k = h (omega arith)
 
@@ -66,7 +67,8 @@ unfolding upTo
 in-numbers zero g h = absurd (omega arith)
 in-numbers (suc n) g h = let s = occurs-snoc g n (numbers n) in go (eqb n g) refl (in-numbers n g) s
   where
-    go : (b : Bool) → eqb n g ≡ b → (g < n → 1 ≤ occurs g (numbers n)) → occurs g (numbers n ++ (n ∷ [])) ≡ occurs g (numbers n) + bit b → 1 ≤ occurs g (numbers n ++ (n ∷ []))
+    go : (b : Bool) → eqb n g ≡ b → (g < n → 1 ≤ occurs g (numbers n))
+        → occurs g (numbers n ++ (n ∷ [])) ≡ occurs g (numbers n) + bit b → 1 ≤ occurs g (numbers n ++ (n ∷ []))
     go true e ih s = omega arith
     go false e ih s = let q = eqb-false n g e in let k = ih (omega arith) in omega arith
 
@@ -75,7 +77,8 @@ unfolding upTo count
 numbers-in zero g h = absurd (omega arith)
 numbers-in (suc n) g h = let s = occurs-snoc g n (numbers n) in go (eqb n g) refl (numbers-in n g) s
   where
-    go : (b : Bool) → eqb n g ≡ b → (1 ≤ occurs g (numbers n) → g < n) → occurs g (numbers n ++ (n ∷ [])) ≡ occurs g (numbers n) + bit b → g < suc n
+    go : (b : Bool) → eqb n g ≡ b → (1 ≤ occurs g (numbers n) → g < n)
+        → occurs g (numbers n ++ (n ∷ [])) ≡ occurs g (numbers n) + bit b → g < suc n
     go true e ih s = let q = eqb-true n g e in omega arith
     go false e ih s = let k = ih (omega arith) in omega arith
 
@@ -141,7 +144,8 @@ Full p n = (g : ℕ) → g < p → isNote (n g) ≡ true
 
 pub data Chosen (p : ℕ) (n : ℕ → Slot) (s : Generators) (q : List Entry) (c : ℕ) : Taken → Type 0 where
   free : (g : ℕ) (w : Was) → isStolen w ≡ false → g < p → n g ≡ empty → Chosen p n s q c (Took g w)
-  theft : (g d : ℕ) → Full p n → g < p → isOf d (n g) ≡ true → IsOver (lookup d q) (withNew p n c d) → oldest (BusyOn d) s ≡ At g → Chosen p n s q c (Took g Stolen)
+  theft : (g d : ℕ) → Full p n → g < p → isOf d (n g) ≡ true → IsOver (lookup d q) (withNew p n c d)
+      → oldest (BusyOn d) s ≡ At g → Chosen p n s q c (Took g Stolen)
   shut : Full p n → IsOver (lookup c q) (withNew p n c c) → notesOn p c n ≡ 0 → Chosen p n s q c (Refused 11)
 
 pub total-cut : (f : ℕ → ℕ) (m n : ℕ) → m ≤ n → ((i : ℕ) → m ≤ i → f i ≡ 0) → total f n ≡ total f m
@@ -149,7 +153,8 @@ unfolding total
 total-cut f m zero h z = let e : m ≡ 0 = omega arith in rw e
 total-cut f m (suc n) h z = go (ltb n m) refl (total-cut f m n)
   where
-    go : (b : Bool) → ltb n m ≡ b → (m ≤ n → ((i : ℕ) → m ≤ i → f i ≡ 0) → total f n ≡ total f m) → total f (suc n) ≡ total f m
+    go : (b : Bool) → ltb n m ≡ b
+        → (m ≤ n → ((i : ℕ) → m ≤ i → f i ≡ 0) → total f n ≡ total f m) → total f (suc n) ≡ total f m
     go true e ih = let k = ltb-true n m e in let e : m ≡ suc n = omega arith in rw e
     go false e ih = let k : m ≤ n = ltb-false n m e in let j = ih k z in let y = z n k in omega arith
 
@@ -165,55 +170,78 @@ module _ (p : ℕ) (n : ℕ → Slot) (s : Generators) (o : Playable p s) (e : S
   pub count-notes : (c : ℕ) → busyCount s c ≡ notesOn p c n
   unfolding busyCount
   count-notes c =
-      total-same (λ (g : ℕ). bit (isBusyOn c (at s g))) (λ (g : ℕ). bit (isOf c (n g))) 64 (λ g k. ap bit (busy-slot c (at s g) ∙ ap (isOf c) (sym (e g))))
-      ∙ total-cut (λ (g : ℕ). bit (isOf c (n g))) p 64 (o .few) (λ g k. ap (λ (x : Slot). bit (isOf c x)) (e g ∙ idle-slot (at s g) (o .above g k)))
+      total-same (λ (g : ℕ). bit (isBusyOn c (at s g))) (λ (g : ℕ). bit (isOf c (n g))) 64
+      (λ g k. ap bit (busy-slot c (at s g) ∙ ap (isOf c) (sym (e g))))
+      ∙ total-cut (λ (g : ℕ). bit (isOf c (n g))) p 64 (o .few)
+      (λ g k. ap (λ (x : Slot). bit (isOf c x)) (e g ∙ idle-slot (at s g) (o .above g k)))
 
   -- what stands in the order of age is what sounds
   in-order : (g : ℕ) → isIdle (at s g) ≡ false → 1 ≤ occurs g (oldestFirst (s .ages))
   in-order g i = rw (o .ordered .once g, i) (omega arith)
 
-  module _ (q : List Entry) (c : ℕ) (u : Distinct q) (t : sum q ≤ p) (l : listed c q ≡ true) (h : (g : ℕ) → IsListed q (n g)) where
+  module _ (q : List Entry) (c : ℕ) (u : Distinct q) (t : sum q ≤ p)
+      (l : listed c q ≡ true) (h : (g : ℕ) → IsListed q (n g)) where
     -- the chosen channel has a busy generator, or is the new note's own
-    take-oldest : Full p n → (d : ℕ) → IsOver (lookup d q) (withNew p n c d) → Chosen p n s q c (orElse (oldest (BusyOn d) s) Stolen (Refused 11))
+    take-oldest : Full p n → (d : ℕ) → IsOver (lookup d q) (withNew p n c d)
+        → Chosen p n s q c (orElse (oldest (BusyOn d) s) Stolen (Refused 11))
     unfolding oldest wanted total
-    take-oldest f d v = go (firstOf (λ g. isBusyOn d (at s g)) (oldestFirst (s .ages))) refl (first-law (λ g. isBusyOn d (at s g)) (oldestFirst (s .ages)))
+    take-oldest f d v = go (firstOf (λ g. isBusyOn d (at s g)) (oldestFirst (s .ages))) refl
+        (first-law (λ g. isBusyOn d (at s g)) (oldestFirst (s .ages)))
       where
         own : (m : ℕ) (b : Bool) → eqb d c ≡ b → m ≡ 0 → IsOver (lookup d q) (m + bit b) → d ≡ c
         own m true eb z v = eqb-true d c eb
         own m false eb z v = absurd (over-none (lookup d q) (rw z at v))
 
-        unheard : ((g : ℕ) → 1 ≤ occurs g (oldestFirst (s .ages)) → isBusyOn d (at s g) ≡ false) → (g : ℕ) → (b : Bool) → isIdle (at s g) ≡ b → isOf d (n g) ≡ false
+        unheard : ((g : ℕ) → 1 ≤ occurs g (oldestFirst (s .ages)) → isBusyOn d (at s g) ≡ false)
+            → (g : ℕ) → (b : Bool) → isIdle (at s g) ≡ b → isOf d (n g) ≡ false
         unheard z g true i = ap (isOf d) (e g ∙ idle-slot (at s g) i)
         unheard z g false i = ap (isOf d) (e g) ∙ sym (busy-slot d (at s g)) ∙ z g (in-order g i)
 
-        go : (x : Option ℕ) → firstOf (λ g. isBusyOn d (at s g)) (oldestFirst (s .ages)) ≡ x → Picked (λ g. isBusyOn d (at s g)) (oldestFirst (s .ages)) x → Chosen p n s q c (orElse (found x) Stolen (Refused 11))
+        go : (x : Option ℕ) → firstOf (λ g. isBusyOn d (at s g)) (oldestFirst (s .ages)) ≡ x
+            → Picked (λ g. isBusyOn d (at s g)) (oldestFirst (s .ages)) x
+            → Chosen p n s q c (orElse (found x) Stolen (Refused 11))
         go x r (some-one g b k) =
             let y : isOf d (n g) ≡ true = ap (isOf d) (e g) ∙ sym (busy-slot d (at s g)) ∙ b in
             theft g d f (below g (note-sounds (at s g) (ap isNote (sym (e g)) ∙ of-note d (n g) y))) y v (ap found r)
         go x r (no-one z) =
-            let m : notesOn p d n ≡ 0 = total-cut (λ (g : ℕ). bit (isOf d (n g))) 0 p (omega arith) (λ g k. ap bit (unheard z g (isIdle (at s g)) refl)) in
+            let m : notesOn p d n ≡ 0 =
+            total-cut (λ (g : ℕ). bit (isOf d (n g))) 0 p (omega arith)
+            (λ g k. ap bit (unheard z g (isIdle (at s g)) refl)) in
             let h : d ≡ c = own (notesOn p d n) (eqb d c) refl m v in
-            shut f (subst (λ (y : ℕ). IsOver (lookup y q) (withNew p n c y)) h v) (subst (λ (y : ℕ). notesOn p y n ≡ 0) h m)
+            shut f (subst (λ (y : ℕ). IsOver (lookup y q) (withNew p n c y)) h v)
+            (subst (λ (y : ℕ). notesOn p y n ≡ 0) h m)
 
-    rob : Full p n → (x : Option ℕ) → overShare (withNew p n c) q ≡ x → Chosen p n s q c (orElse (loses s (toLoser x)) Stolen (Refused 11))
+    rob : Full p n → (x : Option ℕ) → overShare (withNew p n c) q ≡ x
+        → Chosen p n s q c (orElse (loses s (toLoser x)) Stolen (Refused 11))
     rob f none r = absurd (pigeons p n q c f h l t r)
     rob f (some d) r = take-oldest f d (over-some (withNew p n c) q d u r)
 
     pub chosen : (m : Table) → shares p m ≡ q → Chosen p n s q c (choice s m p c)
     unfolding choice lowestIdle oldest wanted victim stealFrom
-    chosen m r = rw (at-most-p p (o .few)) (go (firstOf (λ g. isIdle (at s g)) (numbers p)) (first-law (λ g. isIdle (at s g)) (numbers p)))
+    chosen m r = rw (at-most-p p (o .few))
+        (go (firstOf (λ g. isIdle (at s g)) (numbers p)) (first-law (λ g. isIdle (at s g)) (numbers p)))
       where
-        steal : Full p n → Chosen p n s q c (orElse (loses s (toLoser (overShare (counted s c) (shares p m)))) Stolen (Refused 11))
-        steal f = rw (r, over-same (counted s c) (withNew p n c) q (λ d. ap (λ (k : ℕ). k + bit (eqb d c)) (count-notes d))) (rob f (overShare (withNew p n c) q) refl)
+        steal : Full p n
+            → Chosen p n s q c (orElse (loses s (toLoser (overShare (counted s c) (shares p m)))) Stolen (Refused 11))
+        steal f =
+            rw (r, over-same (counted s c) (withNew p n c) q (λ d. ap (λ (k : ℕ). k + bit (eqb d c)) (count-notes d)))
+            (rob f (overShare (withNew p n c) q) refl)
 
-        full : ((g : ℕ) → 1 ≤ occurs g (numbers p) → isIdle (at s g) ≡ false) → ((g : ℕ) → 1 ≤ occurs g (oldestFirst (s .ages)) → isReleasing (at s g) ≡ false) → Full p n
-        full a b g k = let i = a g (in-numbers p g k) in ap isNote (e g) ∙ rest-notes (at s g) (o .states g) i (b g (in-order g i))
+        full : ((g : ℕ) → 1 ≤ occurs g (numbers p) → isIdle (at s g) ≡ false)
+            → ((g : ℕ) → 1 ≤ occurs g (oldestFirst (s .ages)) → isReleasing (at s g) ≡ false) → Full p n
+        full a b g k =
+            let i = a g (in-numbers p g k) in
+            ap isNote (e g) ∙ rest-notes (at s g) (o .states g) i (b g (in-order g i))
 
-        next : ((g : ℕ) → 1 ≤ occurs g (numbers p) → isIdle (at s g) ≡ false) → (x : Option ℕ) → Picked (λ g. isReleasing (at s g)) (oldestFirst (s .ages)) x
+        next : ((g : ℕ) → 1 ≤ occurs g (numbers p) → isIdle (at s g) ≡ false)
+            → (x : Option ℕ) → Picked (λ g. isReleasing (at s g)) (oldestFirst (s .ages)) x
             → Chosen p n s q c (orElse (found x) Release (orElse (victim s m p c) Stolen (Refused 11)))
-        next a x (some-one g b k) = free g Release refl (below g (releasing-sounds (at s g) b)) (e g ∙ releasing-slot (at s g) b)
+        next a x (some-one g b k) =
+            free g Release refl (below g (releasing-sounds (at s g) b)) (e g ∙ releasing-slot (at s g) b)
         next a x (no-one b) = steal (full a b)
 
-        go : (x : Option ℕ) → Picked (λ g. isIdle (at s g)) (numbers p) x → Chosen p n s q c (orElse (found x) Idle (orElse (oldest Releasing s) Release (orElse (victim s m p c) Stolen (Refused 11))))
+        go : (x : Option ℕ) → Picked (λ g. isIdle (at s g)) (numbers p) x → Chosen p n s q c
+            (orElse (found x) Idle (orElse (oldest Releasing s) Release (orElse (victim s m p c) Stolen (Refused 11))))
         go x (some-one g b k) = free g Idle refl (numbers-in p g k) (e g ∙ idle-slot (at s g) b)
-        go x (no-one a) = next a (firstOf (λ g. isReleasing (at s g)) (oldestFirst (s .ages))) (first-law (λ g. isReleasing (at s g)) (oldestFirst (s .ages)))
+        go x (no-one a) = next a (firstOf (λ g. isReleasing (at s g)) (oldestFirst (s .ages)))
+            (first-law (λ g. isReleasing (at s g)) (oldestFirst (s .ages)))

@@ -24,7 +24,8 @@ use Rattle.generators.specs.Generators.{assigned}
 use Rattle.releases.specs.declared.Change.the-variants.{ReleaseNote}
 use Rattle.releases.specs.Releases.{changed}
 use Rattle.silence.specs.declared.Leaving.the-variants.{Group}
-use Rattle.age_law.proofs.Assigned.{Ordered, Follows, changed-ordered, follows-assigned, follows-changed, follows-silenced}
+use Rattle.age_law.proofs.Assigned.{Ordered, Follows, changed-ordered}
+use Rattle.age_law.proofs.Assigned.{follows-assigned, follows-changed, follows-silenced}
 use Rattle.allocation.specs.declared.Was.{Was}
 use Rattle.allocation.specs.declared.Was.the-variants.{Stolen}
 use Rattle.allocation.specs.declared.Taken.{Taken}
@@ -37,7 +38,8 @@ use Rattle.playing.specs.declared.Answer.{Answer}
 use Rattle.playing.specs.declared.Answer.the-variants.{Note, NoNote}
 use Rattle.playing.specs.declared.Reply.{Reply}
 use Rattle.playing.specs.Playing.{noteReply, playNoteOn}
-use Rattle.note_book.specs.Book.{Slot, empty, note, Book, withNotes, shareOf, isRhythm, isNote, isOf, isEnded, freed, put, remaining, keepNoteOn}
+use Rattle.note_book.specs.Book.{Slot, empty, note, Book, withNotes, shareOf, isRhythm}
+use Rattle.note_book.specs.Book.{isNote, isOf, isEnded, freed, put, remaining, keepNoteOn}
 use Rattle.note_book.specs.Claim.{IsFull}
 use Rattle.note_book.specs.Age.{named}
 use Rattle.note_book.proofs.Playable.{Playable, playable-cleared, playable-assigned}
@@ -61,7 +63,8 @@ pub record Matches (i : Instrument) (b : Book) : Type 0 where
   pub unmasked : (g : ℕ) → IsListed (quota b) (b .notes g)
 
 -- the generators and the notes change, and nothing else
-pub matches-notes : (i : Instrument) (b : Book) → Matches i b → (s : Generators) (n : ℕ → Slot) → Playable (b .polyphony) s → Sees n s → ((g : ℕ) → IsListed (quota b) (n g))
+pub matches-notes : (i : Instrument) (b : Book) → Matches i b → (s : Generators) (n : ℕ → Slot)
+    → Playable (b .polyphony) s → Sees n s → ((g : ℕ) → IsListed (quota b) (n g))
     → Matches (withGenerators i s) (withNotes b n)
 unfolding channelOf
 matches-notes i b m s n p e u =
@@ -90,10 +93,13 @@ freed-listed q f p (note d c k) h = go (f (note d c k)) p
 
 pub data Outcome (b : Book) (c k : ℕ) : Answer → Type 0 where
   masked : isMasked (shareOf b c) ≡ true → Outcome b c k (NoNote 10 c k)
-  served : (g : ℕ) (w : Was) → isMasked (shareOf b c) ≡ false → isStolen w ≡ false → remaining b c k g ≡ empty → Outcome b c k (Note c k g w)
-  robbed : (g d : ℕ) → isMasked (shareOf b c) ≡ false → IsFull b c k → isOf d (remaining b c k g) ≡ true → IsOver (shareOf b d) (withNew (b .polyphony) (remaining b c k) c d)
+  served : (g : ℕ) (w : Was) → isMasked (shareOf b c) ≡ false
+      → isStolen w ≡ false → remaining b c k g ≡ empty → Outcome b c k (Note c k g w)
+  robbed : (g d : ℕ) → isMasked (shareOf b c) ≡ false → IsFull b c k → isOf d (remaining b c k g) ≡ true
+      → IsOver (shareOf b d) (withNew (b .polyphony) (remaining b c k) c d)
       → Outcome b c k (Note c k g Stolen)
-  turned : isMasked (shareOf b c) ≡ false → IsFull b c k → IsOver (shareOf b c) (withNew (b .polyphony) (remaining b c k) c c) → Outcome b c k (NoNote 11 c k)
+  turned : isMasked (shareOf b c) ≡ false → IsFull b c k
+      → IsOver (shareOf b c) (withNew (b .polyphony) (remaining b c k) c c) → Outcome b c k (NoNote 11 c k)
 
 pub record NoteLaw (i : Instrument) (b : Book) (c k : ℕ) (r : Reply) : Type 0 where
   pub outcome : Outcome b c k (r .answer)
@@ -102,7 +108,8 @@ pub record NoteLaw (i : Instrument) (b : Book) (c k : ℕ) (r : Reply) : Type 0 
   pub follows : (l : List ℕ) → Follows (i .generators) l → Follows (r .instrument .generators) (named l (r .answer))
 
 -- what is left is a note that the new one doesn't end
-stands : (f : Slot → Bool) (x : Slot) → f empty ≡ false → isNote (freed f false x) ≡ true → (isNote x ≡ true) × (f x ≡ false)
+stands : (f : Slot → Bool) (x : Slot) → f empty ≡ false
+    → isNote (freed f false x) ≡ true → (isNote x ≡ true) × (f x ≡ false)
 stands f empty z e = (e, z)
 stands f (note p c k) z e = (refl, go (f (note p c k)) refl e)
   where
@@ -113,7 +120,8 @@ stands f (note p c k) z e = (refl, go (f (note p c k)) refl e)
 pub listed-unmasked : (c : ℕ) (q : List Entry) → isMasked (lookup c q) ≡ false → listed c q ≡ true
 listed-unmasked c q e = not-false (listed c q) (sym (masked-unlisted c q) ∙ e)
 
-put-listed : (q : List Entry) (n : ℕ → Slot) (h c k : ℕ) → ((g : ℕ) → IsListed q (n g)) → listed c q ≡ true → (g : ℕ) → IsListed q (put n h (note false c k) g)
+put-listed : (q : List Entry) (n : ℕ → Slot) (h c k : ℕ) → ((g : ℕ) → IsListed q (n g))
+    → listed c q ≡ true → (g : ℕ) → IsListed q (put n h (note false c k) g)
 put-listed q n h c k u l g = go (eqb g h)
   where
     go : (b : Bool) → IsListed q (if b then note false c k else n g)
@@ -121,13 +129,16 @@ put-listed q n h c k u l g = go (eqb g h)
     go false = u g
 
 -- steps 2 and 3 leave the order of what still sounds
-follows-cleared : (r : Bool) (c k : ℕ) (s : Generators) → Ordered s → (l : List ℕ) → Follows s l → Follows (cleared r c k s) l
+follows-cleared : (r : Bool) (c k : ℕ) (s : Generators) → Ordered s
+    → (l : List ℕ) → Follows s l → Follows (cleared r c k s) l
 unfolding cleared
 follows-cleared true c k s o l f =
-    follows-silenced (Group c k) (changed (ReleaseNote c k) s) (changed-ordered (ReleaseNote c k) s o) l (follows-changed (ReleaseNote c k) s o l f)
+    follows-silenced (Group c k) (changed (ReleaseNote c k) s)
+    (changed-ordered (ReleaseNote c k) s o) l (follows-changed (ReleaseNote c k) s o l f)
 follows-cleared false c k s o l f = follows-changed (ReleaseNote c k) s o l f
 
-pub same-share : (i : Instrument) (b : Book) → Matches i b → (c : ℕ) → of-table.shareOf (i .table) (i .polyphony) c ≡ shareOf b c
+pub same-share : (i : Instrument) (b : Book) → Matches i b → (c : ℕ)
+    → of-table.shareOf (i .table) (i .polyphony) c ≡ shareOf b c
 unfolding of-table.shareOf
 same-share i b m c = ap₂ (λ (p : ℕ) (l : List Entry). lookup c (sharesFrom p 0 l)) (m .polyphony) (m .table)
 
@@ -167,32 +178,42 @@ note-law i b m c k = rw (same-rhythm i b m c) (go (isMasked (of-table.shareOf (i
     choose : listed c q ≡ true → Chosen p n s q c (choice s (i .table) (i .polyphony) c)
     choose l =
         subst (λ (x : ℕ). Chosen p n s q c (choice s (i .table) x c)) (sym (m .polyphony))
-        (chosen p n s ready seen q c (shares-distinct p 0 (b .table) (m .well-formed .distinct)) (let h = sum-from p 0 (b .table) (m .well-formed .rising) (omega arith) in omega arith) l standing (i .table) (ap (λ (l : List Entry). sharesFrom p 0 l) (m .table)))
+        (chosen p n s ready seen q c (shares-distinct p 0 (b .table) (m .well-formed .distinct))
+        (let h = sum-from p 0 (b .table) (m .well-formed .rising) (omega arith) in omega arith) l standing (i .table)
+        (ap (λ (l : List Entry). sharesFrom p 0 l) (m .table)))
 
     full : Full p n → IsFull b c k
     full f g h = stands (isEnded r c k) (b .notes g) refl (f g h)
 
-    taking : listed c q ≡ true → (g : ℕ) → g < p → Matches (withGenerators i (assigned g c k s)) (withNotes b (put n g (note false c k)))
+    taking : listed c q ≡ true → (g : ℕ) → g < p
+        → Matches (withGenerators i (assigned g c k s)) (withNotes b (put n g (note false c k)))
     taking l g h =
         let z = ready .few in
-        matches-notes i b m (assigned g c k s) (put n g (note false c k)) (playable-assigned g c k p s ready h) (sees-assigned g c k n s (ready .ordered .sized) (omega arith) seen) (put-listed q n g c k standing l)
+        matches-notes i b m (assigned g c k s) (put n g (note false c k)) (playable-assigned g c k p s ready h)
+        (sees-assigned g c k n s (ready .ordered .sized) (omega arith) seen) (put-listed q n g c k standing l)
 
     same : Matches (withGenerators i (i .generators)) b
     same = matches-notes i b m (i .generators) (b .notes) (m .playable) (m .notes) (m .unmasked)
 
-    newest : (g : ℕ) → g < p → (l : List ℕ) → Follows (i .generators) l → Follows (assigned g c k s) (filterBy (otherThan g) l ++ (g ∷ []))
+    newest : (g : ℕ) → g < p → (l : List ℕ) → Follows (i .generators) l
+        → Follows (assigned g c k s) (filterBy (otherThan g) l ++ (g ∷ []))
     newest g h l f =
         let z = ready .few in
-        follows-assigned s (ready .ordered) g c k (omega arith) l (follows-cleared r c k (i .generators) (m .playable .ordered) l f)
+        follows-assigned s (ready .ordered) g c k (omega arith) l
+        (follows-cleared r c k (i .generators) (m .playable .ordered) l f)
 
-    take : isMasked (shareOf b c) ≡ false → listed c q ≡ true → (t : Taken) → Chosen p n s q c t → NoteLaw i b c k (noteReply i c k (allocated (i .generators) s c k t))
+    take : isMasked (shareOf b c) ≡ false → listed c q ≡ true → (t : Taken)
+        → Chosen p n s q c t → NoteLaw i b c k (noteReply i c k (allocated (i .generators) s c k t))
     take u l t (free g w z h e) = record { outcome = served g w u z e; matches = taking l g h; follows = newest g h }
-    take u l t (theft g d f h e v o) = record { outcome = robbed g d u (full f) e v; matches = taking l g h; follows = newest g h }
+    take u l t (theft g d f h e v o) =
+        record { outcome = robbed g d u (full f) e v; matches = taking l g h; follows = newest g h }
     take u l t (shut f v z) = record { outcome = turned u (full f) v; matches = same; follows = λ l f. f }
 
     go : (x : Bool) → isMasked (of-table.shareOf (i .table) (i .polyphony) c) ≡ x
-        → NoteLaw i b c k (noteReply i c k (if x then record { taken = Refused 10; generators = i .generators } else allocated (i .generators) s c k (choice s (i .table) (i .polyphony) c)))
-    go true e = record { outcome = masked (ap isMasked (sym (same-share i b m c)) ∙ e); matches = same; follows = λ l f. f }
+        → NoteLaw i b c k (noteReply i c k (if x then record { taken = Refused 10; generators = i .generators }
+        else allocated (i .generators) s c k (choice s (i .table) (i .polyphony) c)))
+    go true e =
+        record { outcome = masked (ap isMasked (sym (same-share i b m c)) ∙ e); matches = same; follows = λ l f. f }
     go false e =
         let u : isMasked (shareOf b c) ≡ false = ap isMasked (sym (same-share i b m c)) ∙ e in
         let l = listed-unmasked c q u in

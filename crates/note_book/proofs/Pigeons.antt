@@ -37,7 +37,8 @@ unfolding overShare
 none-le n [] e = omega arith
 none-le n (x ∷ q) e = go (overShare n q) refl (ltb (x .value) (n (x .channel))) refl e (none-le n q)
   where
-    go : (o : Option ℕ) → overShare n q ≡ o → (b : Bool) → ltb (x .value) (n (x .channel)) ≡ b → otherwise o (if b then some (x .channel) else none) ≡ none
+    go : (o : Option ℕ) → overShare n q ≡ o → (b : Bool) → ltb (x .value) (n (x .channel)) ≡ b
+        → otherwise o (if b then some (x .channel) else none) ≡ none
         → (overShare n q ≡ none → sumBy n q ≤ sum q) → n (x .channel) + sumBy n q ≤ x .value + sum q
     go (some d) eo b eb e ih = absurd (Option·some-ne-none d e)
     go none eo true eb e ih = absurd (Option·some-ne-none (x .channel) e)
@@ -48,7 +49,8 @@ unfolding listed lookup
 unlisted-masked d [] m u h = h
 unlisted-masked d (x ∷ q) m u h = go (eqb d (x .channel)) u h (unlisted-masked d q m)
   where
-    go : (b : Bool) → b || listed d q ≡ false → IsOver (if b then Units (x .value) else lookup d q) m → (listed d q ≡ false → IsOver (lookup d q) m → ⊥) → ⊥
+    go : (b : Bool) → b || listed d q ≡ false → IsOver (if b then Units (x .value) else lookup d q) m
+        → (listed d q ≡ false → IsOver (lookup d q) m → ⊥) → ⊥
     go true u h ih = true≢false u
     go false u h ih = ih u h
 
@@ -58,15 +60,20 @@ unfolding overShare lookup
 over-some n [] d u e = absurd (Option·none-ne-some d e)
 over-some n (x ∷ q) d u e = go (overShare n q) refl (ltb (x .value) (n (x .channel))) refl e (over-some n q d (u .1))
   where
-    here : x .channel ≡ d → x .value < n (x .channel) → IsOver (if eqb d (x .channel) then Units (x .value) else lookup d q) (n d)
+    here : x .channel ≡ d → x .value < n (x .channel)
+        → IsOver (if eqb d (x .channel) then Units (x .value) else lookup d q) (n d)
     here h l = rw (eq-eqb d (x .channel) (sym h)) (rw (← h) l)
 
-    there : (b : Bool) → eqb d (x .channel) ≡ b → IsOver (lookup d q) (n d) → IsOver (if b then Units (x .value) else lookup d q) (n d)
-    there true eb l = absurd (unlisted-masked d q (n d) (ap (λ (y : ℕ). listed y q) (eqb-true d (x .channel) eb) ∙ u .0) l)
+    there : (b : Bool) → eqb d (x .channel) ≡ b → IsOver (lookup d q) (n d)
+        → IsOver (if b then Units (x .value) else lookup d q) (n d)
+    there true eb l =
+        absurd (unlisted-masked d q (n d) (ap (λ (y : ℕ). listed y q) (eqb-true d (x .channel) eb) ∙ u .0) l)
     there false eb l = l
 
-    go : (o : Option ℕ) → overShare n q ≡ o → (b : Bool) → ltb (x .value) (n (x .channel)) ≡ b → otherwise o (if b then some (x .channel) else none) ≡ some d
-        → (overShare n q ≡ some d → IsOver (lookup d q) (n d)) → IsOver (if eqb d (x .channel) then Units (x .value) else lookup d q) (n d)
+    go : (o : Option ℕ) → overShare n q ≡ o → (b : Bool) → ltb (x .value) (n (x .channel)) ≡ b
+        → otherwise o (if b then some (x .channel) else none) ≡ some d
+        → (overShare n q ≡ some d → IsOver (lookup d q) (n d))
+        → IsOver (if eqb d (x .channel) then Units (x .value) else lookup d q) (n d)
     go (some y) eo b eb e ih = there (eqb d (x .channel)) refl (ih (eo ∙ e))
     go none eo true eb e ih = here (cc) (ltb-true (x .value) (n (x .channel)) eb)
     go none eo false eb e ih = absurd (Option·none-ne-some d e)
@@ -87,10 +94,13 @@ sum-zero [] = refl
 sum-zero (x ∷ q) = let k = sum-zero q in omega arith
 
 -- by channels and by generators
-sum-total : (f : ℕ → ℕ → ℕ) (p : ℕ) (q : List Entry) → sumBy (λ d. total (f d) p) q ≡ total (λ g. sumBy (λ d. f d g) q) p
+sum-total : (f : ℕ → ℕ → ℕ) (p : ℕ) (q : List Entry)
+    → sumBy (λ d. total (f d) p) q ≡ total (λ g. sumBy (λ d. f d g) q) p
 unfolding total
 sum-total f zero q = sum-zero q
-sum-total f (suc p) q = let k = sum-total f p q in sum-add (λ (d : ℕ). total (f d) p) (λ (d : ℕ). f d p) q ∙ ap (λ (n : ℕ). n + sumBy (λ d. f d p) q) k
+sum-total f (suc p) q =
+    let k = sum-total f p q in
+    sum-add (λ (d : ℕ). total (f d) p) (λ (d : ℕ). f d p) q ∙ ap (λ (n : ℕ). n + sumBy (λ d. f d p) q) k
 
 total-ones : (f : ℕ → ℕ) (p : ℕ) → ((g : ℕ) → g < p → 1 ≤ f g) → p ≤ total f p
 unfolding total
@@ -109,7 +119,8 @@ unfolding listed
 listed-sum c [] e = absurd (false≢true e)
 listed-sum c (x ∷ q) e = go (eqb c (x .channel)) e (listed-sum c q)
   where
-    go : (b : Bool) → b || listed c q ≡ true → (listed c q ≡ true → 1 ≤ sumBy (λ d. bit (eqb c d)) q) → 1 ≤ bit b + sumBy (λ d. bit (eqb c d)) q
+    go : (b : Bool) → b || listed c q ≡ true → (listed c q ≡ true → 1 ≤ sumBy (λ d. bit (eqb c d)) q)
+        → 1 ≤ bit b + sumBy (λ d. bit (eqb c d)) q
     go true e ih = omega arith
     go false e ih = let k = ih e in omega arith
 
@@ -128,13 +139,15 @@ slot-sum q (note p c k) e h = listed-sum c q h
 abbrev pub withNew : ℕ → (ℕ → Slot) → ℕ → ℕ → ℕ
 withNew p n c d = notesOn p d n + bit (eqb d c)
 
-pub pigeons : (p : ℕ) (n : ℕ → Slot) (q : List Entry) (c : ℕ) → ((g : ℕ) → g < p → isNote (n g) ≡ true) → ((g : ℕ) → IsListed q (n g)) → listed c q ≡ true → sum q ≤ p
+pub pigeons : (p : ℕ) (n : ℕ → Slot) (q : List Entry) (c : ℕ) → ((g : ℕ) → g < p → isNote (n g) ≡ true)
+    → ((g : ℕ) → IsListed q (n g)) → listed c q ≡ true → sum q ≤ p
     → overShare (withNew p n c) q ≡ none → ⊥
 pigeons p n q c full at-listed l s e =
     let a = none-le (withNew p n c) q e in
     let b = sum-add (λ (d : ℕ). notesOn p d n) (λ (d : ℕ). bit (eqb d c)) q in
     let t = sum-total (λ (d g : ℕ). bit (isOf d (n g))) p q in
-    let o = total-ones (λ (g : ℕ). sumBy (λ d. bit (isOf d (n g))) q) p (λ g k. slot-sum q (n g) (full g k) (at-listed g)) in
+    let o = total-ones (λ (g : ℕ). sumBy (λ d. bit (isOf d (n g))) q) p
+    (λ g k. slot-sum q (n g) (full g k) (at-listed g)) in
     let k = own q l in
     omega arith
   where

@@ -19,7 +19,8 @@ use Rattle.silence.specs.declared.Leaving.the-variants.{Group}
 use Rattle.silence.specs.Silence.{goes, silenced}
 use Rattle.allocation.specs.Allocation.{cleared}
 use Rattle.age_law.proofs.At.{restated, restated-at, silenced-at, assigned-at}
-use Rattle.age_law.proofs.Assigned.{Ordered, change-busy, after-sounds, restated-ordered, silenced-ordered, assigned-ordered, silent-ordered}
+use Rattle.age_law.proofs.Assigned.{Ordered, change-busy, after-sounds, restated-ordered}
+use Rattle.age_law.proofs.Assigned.{silenced-ordered, assigned-ordered, silent-ordered}
 
 pub record Playable (p : ℕ) (s : Generators) : Type 0 where
   pub few : p ≤ 64
@@ -34,7 +35,8 @@ idle-busy x e = rw (eqb-true (x .state) 0 e)
 of-states : {x y : Generator} → x ≡ y → y .state ≤ 3 → x .state ≤ 3
 of-states e h = subst (λ (z : Generator). z .state ≤ 3) (sym e) h
 
-pub playable-restated : (p : ℕ) (s : Generators) (o : Playable p s) (t : Generator → Bool) (n : ℕ) (busy : (x : Generator) → t x ≡ true → isBusy x ≡ true) → eqb n 0 ≡ false → n ≤ 3
+pub playable-restated : (p : ℕ) (s : Generators) (o : Playable p s) (t : Generator → Bool)
+    (n : ℕ) (busy : (x : Generator) → t x ≡ true → isBusy x ≡ true) → eqb n 0 ≡ false → n ≤ 3
     → Playable p (restated s (o .ordered .sized) t n busy)
 playable-restated p s o t n busy z h =
     record {
@@ -48,7 +50,8 @@ playable-restated p s o t n busy z h =
     state g true = h
     state g false = o .states g
 
-    idle : (g : ℕ) → p ≤ g → (b : Bool) → t (at s g) ≡ b → isIdle (if b then generator n (at s g .channel) (at s g .key) else at s g) ≡ true
+    idle : (g : ℕ) → p ≤ g → (b : Bool) → t (at s g) ≡ b
+        → isIdle (if b then generator n (at s g .channel) (at s g .key) else at s g) ≡ true
     idle g k true e = absurd (true≢false (sym (busy (at s g) e) ∙ idle-busy (at s g) (o .above g k)))
     idle g k false e = o .above g k
 
@@ -66,7 +69,8 @@ after-state (PedalUp c) = omega arith
 
 pub playable-changed : (h : Change) (p : ℕ) (s : Generators) → Playable p s → Playable p (changed h s)
 unfolding changed
-playable-changed h p s o = playable-restated p s o (changes h) (stateAfter h) (change-busy h) (after-sounds h) (after-state h)
+playable-changed h p s o =
+    playable-restated p s o (changes h) (stateAfter h) (change-busy h) (after-sounds h) (after-state h)
 
 pub playable-silenced : (l : Leaving) (p : ℕ) (s : Generators) → Playable p s → Playable p (silenced l s)
 playable-silenced l p s o =
@@ -92,7 +96,8 @@ playable-assigned g c k p s o h =
       few = o .few;
       ordered = assigned-ordered s (o .ordered) g c k (omega arith);
       states = λ j. of-states (assigned-at g c k s (o .ordered .sized) (omega arith) j) (state j (eqb j g));
-      above = λ j l. ap isIdle (assigned-at g c k s (o .ordered .sized) (omega arith) j) ∙ rw (ne-eqb j g (λ (e : j ≡ g). omega arith)) (o .above j l);
+      above = λ j l. ap isIdle (assigned-at g c k s (o .ordered .sized) (omega arith) j)
+          ∙ rw (ne-eqb j g (λ (e : j ≡ g). omega arith)) (o .above j l);
     }
   where
     state : (j : ℕ) (b : Bool) → (if b then generator 1 c k else at s j) .state ≤ 3
@@ -111,5 +116,6 @@ playable-silent p h =
 
 pub playable-cleared : (r : Bool) (c k p : ℕ) (s : Generators) → Playable p s → Playable p (cleared r c k s)
 unfolding cleared
-playable-cleared true c k p s o = playable-silenced (Group c k) p (changed (ReleaseNote c k) s) (playable-changed (ReleaseNote c k) p s o)
+playable-cleared true c k p s o =
+    playable-silenced (Group c k) p (changed (ReleaseNote c k) s) (playable-changed (ReleaseNote c k) p s o)
 playable-cleared false c k p s o = playable-changed (ReleaseNote c k) p s o

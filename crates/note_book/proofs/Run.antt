@@ -29,8 +29,12 @@ use Rattle.playing.specs.Playing.{played}
 use Rattle.controllers.specs.Controllers.{liftsPedal, silencesAll, endsAll}
 use Rattle.reports.specs.Reports.{reported}
 use Rattle.exclusive.specs.Exclusive as of-exclusive
-use Rattle.note_book.specs.Book.{Slot, empty, note, Book, isDone, shareOf, isRhythm, isOf, isEnded, freed, allFreed, put, withHolds, remaining, keepNoteOn, notesAfter, keepControl, keepMessage, keepReport, Heard, nothing, message, newTable, reset, report, keep, notesOn, countAt}
-use Rattle.note_book.specs.Claim.{IsWithin, isLoss, IsFull, Fair, Keeps, Safe, AtNoteOn, IsInRun, System, after, IsExact, Always, Each, IsRun, Demand3}
+use Rattle.note_book.specs.Book.{Slot, empty, note, Book, isDone, shareOf, isRhythm, isOf}
+use Rattle.note_book.specs.Book.{isEnded, freed, allFreed, put, withHolds, remaining, keepNoteOn}
+use Rattle.note_book.specs.Book.{notesAfter, keepControl, keepMessage, keepReport, Heard, nothing}
+use Rattle.note_book.specs.Book.{message, newTable, reset, report, keep, notesOn, countAt}
+use Rattle.note_book.specs.Claim.{IsWithin, isLoss, IsFull, Fair, Keeps, Safe, AtNoteOn}
+use Rattle.note_book.specs.Claim.{IsInRun, System, after, IsExact, Always, Each, IsRun, Demand3}
 use Rattle.note_book.specs.Age.{named}
 use Rattle.note_book.proofs.Pigeons.{IsOver, flip, withNew}
 use Rattle.note_book.proofs.Matches.{Matches, Outcome, masked, served, robbed, turned, note-law}
@@ -45,7 +49,8 @@ IsNoNote a = (l : List ℕ) → named l a ≡ l
 pub data Right (i : Instrument) (b : Book) : Heard → Answer → Instrument → Type 0 where
   right-nothing : (a : Answer) → IsNoNote a → Right i b nothing a i
   right-message : (m : Message) → IsSent m → Right i b (message m) (played i m .answer) (played i m .instrument)
-  right-table : (t : Table) → WellFormed (entriesOf t) → Right i b (newTable (entriesOf t)) Done (of-exclusive.newTable i t)
+  right-table : (t : Table) → WellFormed (entriesOf t)
+      → Right i b (newTable (entriesOf t)) Done (of-exclusive.newTable i t)
   right-reset : Right i b reset Done (fresh (i .polyphony) (i .id))
   right-report : (g : ℕ) → Right i b (report g) (reported i g .answer) (reported i g .instrument)
 
@@ -69,21 +74,26 @@ freed-le x f p (note d c k) = go (f (note d c k)) p
     go false b = omega arith
 
 -- what frees notes gives no channel one
-notes-freed : (p x : ℕ) (f : Slot → Bool) (pedal : Bool) (n : ℕ → Slot) → notesOn p x (λ g. freed f pedal (n g)) ≤ notesOn p x n
-notes-freed p x f pedal n = total-le (λ (g : ℕ). bit (isOf x (freed f pedal (n g)))) (λ (g : ℕ). bit (isOf x (n g))) p (λ g. freed-le x f pedal (n g))
+notes-freed : (p x : ℕ) (f : Slot → Bool) (pedal : Bool) (n : ℕ → Slot)
+    → notesOn p x (λ g. freed f pedal (n g)) ≤ notesOn p x n
+notes-freed p x f pedal n = total-le (λ (g : ℕ). bit (isOf x (freed f pedal (n g))))
+    (λ (g : ℕ). bit (isOf x (n g))) p (λ g. freed-le x f pedal (n g))
 
 -- one slot anew adds its own note at the most, whichever notes count
-pub count-put : (t : Slot → Bool) (p h : ℕ) (s : Slot) (n : ℕ → Slot) → total (λ g. bit (t (put n h s g))) p ≤ total (λ g. bit (t (n g))) p + bit (t s)
+pub count-put : (t : Slot → Bool) (p h : ℕ) (s : Slot) (n : ℕ → Slot)
+    → total (λ g. bit (t (put n h s g))) p ≤ total (λ g. bit (t (n g))) p + bit (t s)
 unfolding total
 count-put t zero h s n = omega arith
 count-put t (suc p) h s n = go (eqb p h) refl (count-put t p h s n)
   where
     -- the places before h are as they were
     low : p ≡ h → total (λ g. bit (t (put n h s g))) p ≡ total (λ g. bit (t (n g))) p
-    low e = total-same (λ (g : ℕ). bit (t (put n h s g))) (λ (g : ℕ). bit (t (n g))) p (λ g k. rw (ne-eqb g h (λ (q : g ≡ h). omega arith)))
+    low e = total-same (λ (g : ℕ). bit (t (put n h s g)))
+        (λ (g : ℕ). bit (t (n g))) p (λ g k. rw (ne-eqb g h (λ (q : g ≡ h). omega arith)))
 
     go : (b : Bool) → eqb p h ≡ b → total (λ g. bit (t (put n h s g))) p ≤ total (λ g. bit (t (n g))) p + bit (t s)
-        → total (λ g. bit (t (put n h s g))) p + bit (t (if b then s else n p)) ≤ total (λ g. bit (t (n g))) p + bit (t (n p)) + bit (t s)
+        → total (λ g. bit (t (put n h s g))) p + bit (t (if b then s else n p))
+        ≤ total (λ g. bit (t (n g))) p + bit (t (n p)) + bit (t s)
     go true e ih = let k = low (eqb-true p h e) in omega arith
     go false e ih = omega arith
 
@@ -97,7 +107,8 @@ tame-same : (b : Book) → Tamer b b
 tame-same b = record { same-polyphony = refl; same-table = refl; fewer = λ x. omega arith }
 
 tame-freed : (f : Slot → Bool) (p : Bool) (b : Book) → Tamer b (allFreed f p b)
-tame-freed f p b = record { same-polyphony = refl; same-table = refl; fewer = λ x. notes-freed (b .polyphony) x f p (b .notes) }
+tame-freed f p b =
+    record { same-polyphony = refl; same-table = refl; fewer = λ x. notes-freed (b .polyphony) x f p (b .notes) }
 
 tame-holds : (b b′ : Book) (h : ℕ → ℕ) → Tamer b b′ → Tamer b (withHolds b′ h)
 tame-holds b b′ h t = record { same-polyphony = t .same-polyphony; same-table = t .same-table; fewer = t .fewer }
@@ -105,7 +116,11 @@ tame-holds b b′ h t = record { same-polyphony = t .same-polyphony; same-table 
 tame-report : (b : Book) (g : ℕ) (a : Answer) → Tamer b (keepReport b g a)
 tame-report b g a =
     by-both (Tamer b) (isDone a) _ _
-    (record { same-polyphony = refl; same-table = refl; fewer = λ x. let h = count-put (isOf x) (b .polyphony) g empty (b .notes) in omega arith })
+    (record {
+      same-polyphony = refl;
+      same-table = refl;
+      fewer = λ x. let h = count-put (isOf x) (b .polyphony) g empty (b .notes) in omega arith;
+    })
     (tame-same b)
 
 tame-control : (b : Book) (c n v : ℕ) → Tamer b (keepControl b c n v)
@@ -141,7 +156,8 @@ same-channel c d empty e f = absurd (false≢true e)
 same-channel c d (note p x j) e f = sym (eqb-true x c e) ∙ eqb-true x d f
 
 -- channel c keeps within its share, and a note-on of channel d comes
-module _ (b : Book) (c d k : ℕ) (w : IsWithin (shareOf b c) (notesOn (b .polyphony) c (b .notes))) (h : d ≡ c → IsWithin (shareOf b c) (countAt b c k)) where
+module _ (b : Book) (c d k : ℕ) (w : IsWithin (shareOf b c) (notesOn (b .polyphony) c (b .notes)))
+    (h : d ≡ c → IsWithin (shareOf b c) (countAt b c k)) where
   -- what it has with the new note
   asked : IsWithin (shareOf b c) (withNew (b .polyphony) (remaining b d k) d c)
   asked = go (eqb c d) refl
@@ -155,32 +171,42 @@ module _ (b : Book) (c d k : ℕ) (w : IsWithin (shareOf b c) (notesOn (b .polyp
           within-less (shareOf b c) (notesOn (b .polyphony) c (b .notes)) _ (omega arith) w
 
   safe-on : (a : Answer) → Outcome b d k a → Safe c b a d k
-  safe-on a (masked e) = (λ q. absurd (within-unmasked (shareOf b c) _ w (ap (λ (x : ℕ). isMasked (shareOf b x)) (sym q) ∙ e)), refl)
+  safe-on a (masked e) =
+      (λ q. absurd (within-unmasked (shareOf b c) _ w (ap (λ (x : ℕ). isMasked (shareOf b x)) (sym q) ∙ e)), refl)
   safe-on a (served g v u n e) = (λ q. rw (eq-eqb d d refl, eq-eqb k k refl), ap (isOf c) e)
   safe-on a (robbed g x u f e v) = (λ q. rw (eq-eqb d d refl, eq-eqb k k refl), go (isOf c (remaining b d k g)) refl)
     where
       go : (t : Bool) → isOf c (remaining b d k g) ≡ t → t ≡ false
       go true t =
           let q : x ≡ c = same-channel x c (remaining b d k g) e t in
-          absurd (clash (shareOf b c) _ _ asked (subst (λ (y : ℕ). IsOver (shareOf b y) (withNew (b .polyphony) (remaining b d k) d y)) q v) (omega arith))
+          absurd (clash (shareOf b c) _ _ asked
+          (subst (λ (y : ℕ). IsOver (shareOf b y) (withNew (b .polyphony) (remaining b d k) d y)) q v) (omega arith))
       go false t = refl
-  safe-on a (turned u f v) =
-      (λ q. absurd (clash (shareOf b c) _ _ asked (subst (λ (y : ℕ). IsOver (shareOf b y) (withNew (b .polyphony) (remaining b d k) d y)) q v) (omega arith)), refl)
+  safe-on a (turned u f v) = (
+    λ q. absurd (clash (shareOf b c) _ _ asked
+        (subst (λ (y : ℕ). IsOver (shareOf b y) (withNew (b .polyphony) (remaining b d k) d y)) q v) (omega arith)),
+    refl,
+  )
 
   -- the new note is in the book, and the channel still within its share
   held-on : (g : ℕ) → IsWithin (shareOf b c) (notesOn (b .polyphony) c (put (remaining b d k) g (note false d k)))
   held-on g =
       let i = count-put (isOf c) (b .polyphony) g (note false d k) (remaining b d k) in
       let e = flip d c in
-      within-less (shareOf b c) (withNew (b .polyphony) (remaining b d k) d c) _ (subst (λ (x : Bool). notesOn (b .polyphony) c (put (remaining b d k) g (note false d k)) ≤ notesOn (b .polyphony) c (remaining b d k) + bit x) e i) asked
+      within-less (shareOf b c) (withNew (b .polyphony) (remaining b d k) d c) _
+      (subst (λ (x : Bool). notesOn (b .polyphony) c (put (remaining b d k) g (note false d k))
+      ≤ notesOn (b .polyphony) c (remaining b d k) + bit x) e i) asked
 
-  within-on : (a : Answer) → Outcome b d k a → IsWithin (shareOf (keepNoteOn b d k a) c) (notesOn (keepNoteOn b d k a .polyphony) c (keepNoteOn b d k a .notes))
+  within-on : (a : Answer) → Outcome b d k a
+      → IsWithin (shareOf (keepNoteOn b d k a) c)
+      (notesOn (keepNoteOn b d k a .polyphony) c (keepNoteOn b d k a .notes))
   within-on a (masked e) = w
   within-on a (served g v u n e) = held-on g
   within-on a (robbed g x u f e v) = held-on g
   within-on a (turned u f v) = w
 
-within-tame : (c : ℕ) (b b′ : Book) → Tamer b b′ → IsWithin (shareOf b c) (notesOn (b .polyphony) c (b .notes)) → IsWithin (shareOf b′ c) (notesOn (b′ .polyphony) c (b′ .notes))
+within-tame : (c : ℕ) (b b′ : Book) → Tamer b b′ → IsWithin (shareOf b c) (notesOn (b .polyphony) c (b .notes))
+    → IsWithin (shareOf b′ c) (notesOn (b′ .polyphony) c (b′ .notes))
 within-tame c b b′ t w = rw (t .same-polyphony, t .same-table) (within-less (shareOf b c) _ _ (t .fewer c) w)
 
 -- ---- at what the book hears
@@ -188,16 +214,19 @@ within-tame c b b′ t w = rw (t .same-polyphony, t .same-table) (within-less (s
 abbrev Within : ℕ → Book → Type 0
 Within c b = IsWithin (shareOf b c) (notesOn (b .polyphony) c (b .notes))
 
-outcome-of : (i j : Instrument) (b : Book) → Matches i b → (c k : ℕ) (a : Answer) → Right i b (message (NoteOn c k)) a j → Outcome b c k a
+outcome-of : (i j : Instrument) (b : Book) → Matches i b → (c k : ℕ) (a : Answer)
+    → Right i b (message (NoteOn c k)) a j → Outcome b c k a
 unfolding played
 outcome-of i j b m c k a (right-message x s) = note-law i b m c k .outcome
 
 module _ (i j : Instrument) (b : Book) (m : Matches i b) where
-  within-heard : (c : ℕ) (h : Heard) (a : Answer) → Right i b h a j → IsInRun h → Within c b → AtNoteOn (Keeps c b a) h → Within c (keep b h a)
+  within-heard : (c : ℕ) (h : Heard) (a : Answer) → Right i b h a j
+      → IsInRun h → Within c b → AtNoteOn (Keeps c b a) h → Within c (keep b h a)
   unfolding keep keepMessage
   within-heard c nothing a r n w k = w
   within-heard c (message (NoteOn d x)) a r n w k = within-on b c d x w k a (outcome-of i j b m d x a r)
-  within-heard c (message (NoteOff d x)) a r n w k = within-tame c b _ (by-both (Tamer b) (isRhythm b d) _ _ (tame-same b) (tame-freed _ _ b)) w
+  within-heard c (message (NoteOff d x)) a r n w k =
+      within-tame c b _ (by-both (Tamer b) (isRhythm b d) _ _ (tame-same b) (tame-freed _ _ b)) w
   within-heard c (message (Control d x v)) a r n w k = within-tame c b _ (tame-control b d x v) w
   within-heard c (message (Program d x)) a r n w k = w
   within-heard c (message (Bend d x y)) a r n w k = w
@@ -220,18 +249,22 @@ module _ (i j : Instrument) (b : Book) (m : Matches i b) where
   at-note-ons F (report g) f = tt
 
   fair-heard : (h : Heard) (a : Answer) → Right i b h a j → AtNoteOn (Fair b a) h
-  fair-heard h a r = at-note-ons (Fair b a) h (λ c k e. fair-on b c k a (outcome-of i j b m c k a (subst (λ (x : Heard). Right i b x a j) e r)))
+  fair-heard h a r = at-note-ons (Fair b a) h
+      (λ c k e. fair-on b c k a (outcome-of i j b m c k a (subst (λ (x : Heard). Right i b x a j) e r)))
 
-  safe-heard : (c : ℕ) (h : Heard) (a : Answer) → Right i b h a j → Within c b → AtNoteOn (Keeps c b a) h → AtNoteOn (Safe c b a) h
+  safe-heard : (c : ℕ) (h : Heard) (a : Answer) → Right i b h a j
+      → Within c b → AtNoteOn (Keeps c b a) h → AtNoteOn (Safe c b a) h
   safe-heard c h a r w k =
-      at-note-ons (Safe c b a) h (λ d x e. safe-on b c d x w (subst (AtNoteOn (Keeps c b a)) e k) a (outcome-of i j b m d x a (subst (λ (y : Heard). Right i b y a j) e r)))
+      at-note-ons (Safe c b a) h (λ d x e. safe-on b c d x w (subst (AtNoteOn (Keeps c b a)) e k) a
+      (outcome-of i j b m d x a (subst (λ (y : Heard). Right i b y a j) e r)))
 
 -- ---- the list
 
 pub record Lawful (S : System) : Type 1 where
   pub Ready : S .State → Type 0
   pub ready : (s : S .State) (e : S .Event) → Ready s → Matches (S .instrument s) (S .book s) → Ready (S .next s e)
-  pub right : (s : S .State) (e : S .Event) → Ready s → Matches (S .instrument s) (S .book s) → Right (S .instrument s) (S .book s) (S .hears s e) (S .answer s e) (S .instrument (S .next s e))
+  pub right : (s : S .State) (e : S .Event) → Ready s → Matches (S .instrument s) (S .book s)
+      → Right (S .instrument s) (S .book s) (S .hears s e) (S .answer s e) (S .instrument (S .next s e))
   pub books : (s : S .State) (e : S .Event) → S .book (S .next s e) ≡ keep (S .book s) (S .hears s e) (S .answer s e)
 
 module _ (S : System) (L : Lawful S) where
@@ -244,7 +277,8 @@ module _ (S : System) (L : Lawful S) where
       record {
         is = L .ready s e (f .is) (f .matches);
         matches = subst (Matches (S .instrument (S .next s e))) (sym (L .books s e))
-            (step (S .instrument s) (S .instrument (S .next s e)) (S .book s) (S .hears s e) (S .answer s e) (L .right s e (f .is) (f .matches)) (f .matches));
+            (step (S .instrument s) (S .instrument (S .next s e)) (S .book s) (S .hears s e)
+            (S .answer s e) (L .right s e (f .is) (f .matches)) (f .matches));
       }
 
   exact-now : (s : S .State) → Fine s → IsExact S s
@@ -256,10 +290,14 @@ module _ (S : System) (L : Lawful S) where
 
   run-fair : (s : S .State) → Fine s → (l : List (S .Event)) → Each S Fair s l
   run-fair s f [] = tt
-  run-fair s f (e ∷ l) =
-      (fair-heard (S .instrument s) (S .instrument (S .next s e)) (S .book s) (f .matches) (S .hears s e) (S .answer s e) (L .right s e (f .is) (f .matches)), run-fair (S .next s e) (fine-next s f e) l)
+  run-fair s f (e ∷ l) = (
+    fair-heard (S .instrument s) (S .instrument (S .next s e)) (S .book s)
+        (f .matches) (S .hears s e) (S .answer s e) (L .right s e (f .is) (f .matches)),
+    run-fair (S .next s e) (fine-next s f e) l,
+  )
 
-  run-safe : (c : ℕ) (s : S .State) → Fine s → (l : List (S .Event)) → IsRun S s l → Within c (S .book s) → Each S (Keeps c) s l → Each S (Safe c) s l
+  run-safe : (c : ℕ) (s : S .State) → Fine s → (l : List (S .Event)) → IsRun S s l
+      → Within c (S .book s) → Each S (Keeps c) s l → Each S (Safe c) s l
   run-safe c s f [] n w k = tt
   run-safe c s f (e ∷ l) n w k =
       let i = S .instrument s in
@@ -267,7 +305,8 @@ module _ (S : System) (L : Lawful S) where
       let b = S .book s in
       let r = L .right s e (f .is) (f .matches) in (
         safe-heard i j b (f .matches) c (S .hears s e) (S .answer s e) r w (k .0),
-        run-safe c (S .next s e) (fine-next s f e) l (n .1) (subst (Within c) (sym (L .books s e)) (within-heard i j b (f .matches) c (S .hears s e) (S .answer s e) r (n .0) w (k .0))) (k .1),
+        run-safe c (S .next s e) (fine-next s f e) l (n .1) (subst (Within c) (sym (L .books s e))
+            (within-heard i j b (f .matches) c (S .hears s e) (S .answer s e) r (n .0) w (k .0))) (k .1),
       )
 
   pub fine-after : (s : S .State) → Fine s → (l : List (S .Event)) → Fine (after S s l)

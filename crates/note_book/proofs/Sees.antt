@@ -69,7 +69,8 @@ pedals (NoteOff pedal c k) = pedal
 pedals (AllNotesOff pedal c) = pedal
 pedals (PedalUp c) = false
 
-slot-after : (h : Change) (c k : ℕ) → slotOf (generator (stateAfter h) c k) ≡ (if pedals h then note true c k else empty)
+slot-after : (h : Change) (c k : ℕ)
+    → slotOf (generator (stateAfter h) c k) ≡ (if pedals h then note true c k else empty)
 unfolding stateAfter
 slot-after (ReleaseNote d j) c k = refl
 slot-after (ReleaseChannel d) c k = refl
@@ -103,18 +104,32 @@ neither-means (AllNotesOff pedal d) n c k p q = rw p
 neither-means (PedalUp d) n c k p q = rw q
 
 slot-changed : (h : Change) (n c k : ℕ)
-    → slotOf (if changes h (generator n c k) then generator (stateAfter h) c k else generator n c k) ≡ freed (means h) (pedals h) (slotOf (generator n c k))
+    → slotOf (if changes h (generator n c k) then generator (stateAfter h) c k else generator n c k)
+    ≡ freed (means h) (pedals h) (slotOf (generator n c k))
 slot-changed h n c k = go (kind n)
   where
-    go : Kind n → slotOf (if changes h (generator n c k) then generator (stateAfter h) c k else generator n c k) ≡ freed (means h) (pedals h) (slotOf (generator n c k))
-    go (held e) = rw (e, held-means h c k, slot-if (means h (note false c k)) (generator (stateAfter h) c k) (generator 1 c k), slot-after h c k)
-    go (sustained e) = rw (e, sustained-means h c k, slot-if (means h (note true c k)) (generator (stateAfter h) c k) (generator 2 c k), slot-after h c k)
+    go : Kind n → slotOf (if changes h (generator n c k) then generator (stateAfter h) c k else generator n c k)
+        ≡ freed (means h) (pedals h) (slotOf (generator n c k))
+    go (held e) = rw (
+      e,
+      held-means h c k,
+      slot-if (means h (note false c k)) (generator (stateAfter h) c k) (generator 1 c k),
+      slot-after h c k,
+    )
+    go (sustained e) = rw (
+      e,
+      sustained-means h c k,
+      slot-if (means h (note true c k)) (generator (stateAfter h) c k) (generator 2 c k),
+      slot-after h c k,
+    )
     go (neither p q) = rw (neither-means h n c k p q, p, q)
 
 -- what falls silent, or gives way to a mask: a generator that passes the test t goes to y, which is no note
-pub slot-freed : (f : Slot → Bool) (t : Bool) (y : Generator) (n c k : ℕ) → slotOf y ≡ empty → (n ≡ 1 → t ≡ f (note false c k)) → (n ≡ 2 → t ≡ f (note true c k))
+pub slot-freed : (f : Slot → Bool) (t : Bool) (y : Generator) (n c k : ℕ)
+    → slotOf y ≡ empty → (n ≡ 1 → t ≡ f (note false c k)) → (n ≡ 2 → t ≡ f (note true c k))
     → slotOf (if t then y else generator n c k) ≡ freed f false (slotOf (generator n c k))
-slot-freed f t y n c k z p q = slot-if t y (generator n c k) ∙ ap (λ (x : Slot). if t then x else slotOf (generator n c k)) z ∙ go (kind n)
+slot-freed f t y n c k z p q =
+    slot-if t y (generator n c k) ∙ ap (λ (x : Slot). if t then x else slotOf (generator n c k)) z ∙ go (kind n)
   where
     go : Kind n → (if t then empty else slotOf (generator n c k)) ≡ freed f false (slotOf (generator n c k))
     go (held e) = rw (p e, e)
@@ -122,38 +137,47 @@ slot-freed f t y n c k z p q = slot-if t y (generator n c k) ∙ ap (λ (x : Slo
     go (neither r s) = rw (r, s) (same-if t empty)
 
 slot-silenced : (f : Slot → Bool) (b : Bool) (n c k : ℕ) → f (note false c k) ≡ b → f (note true c k) ≡ b
-    → slotOf (if isSounding (generator n c k) && b then generator 0 0 0 else generator n c k) ≡ freed f false (slotOf (generator n c k))
-slot-silenced f b n c k p q = slot-freed f (isSounding (generator n c k) && b) (generator 0 0 0) n c k refl (λ e. rw (e, p)) (λ e. rw (e, q))
+    → slotOf (if isSounding (generator n c k) && b then generator 0 0 0 else generator n c k)
+    ≡ freed f false (slotOf (generator n c k))
+slot-silenced f b n c k p q =
+    slot-freed f (isSounding (generator n c k) && b) (generator 0 0 0) n c k refl (λ e. rw (e, p)) (λ e. rw (e, q))
 
 -- ---- all generators
 
-pub sees-restated : (n : ℕ → Slot) (s : Generators) (z : Sized s) (t : Generator → Bool) (m : ℕ) (busy : (x : Generator) → t x ≡ true → isBusy x ≡ true) (f : Slot → Bool) (p : Bool)
-    → ((g : ℕ) → slotOf (if t (at s g) then generator m (at s g .channel) (at s g .key) else at s g) ≡ freed f p (slotOf (at s g)))
+pub sees-restated : (n : ℕ → Slot) (s : Generators) (z : Sized s) (t : Generator → Bool)
+    (m : ℕ) (busy : (x : Generator) → t x ≡ true → isBusy x ≡ true) (f : Slot → Bool) (p : Bool)
+    → ((g : ℕ) → slotOf (if t (at s g) then generator m (at s g .channel) (at s g .key) else at s g)
+    ≡ freed f p (slotOf (at s g)))
     → Sees n s → Sees (λ g. freed f p (n g)) (restated s z t m busy)
 sees-restated n s z t m busy f p h e g = ap (freed f p) (e g) ∙ sym (h g) ∙ ap slotOf (sym (restated-at s z t m busy g))
 
-pub sees-changed : (h : Change) (n : ℕ → Slot) (s : Generators) → Sized s → Sees n s → Sees (λ g. freed (means h) (pedals h) (n g)) (changed h s)
+pub sees-changed : (h : Change) (n : ℕ → Slot) (s : Generators) → Sized s
+    → Sees n s → Sees (λ g. freed (means h) (pedals h) (n g)) (changed h s)
 unfolding changed
 sees-changed h n s z e =
-    sees-restated n s z (changes h) (stateAfter h) (change-busy h) (means h) (pedals h) (λ g. slot-changed h (at s g .state) (at s g .channel) (at s g .key)) e
+    sees-restated n s z (changes h) (stateAfter h) (change-busy h) (means h) (pedals h)
+    (λ g. slot-changed h (at s g .state) (at s g .channel) (at s g .key)) e
 
 -- the notes of one channel, or of its group
 abbrev pub among : ℕ → (ℕ → Bool) → Slot → Bool
 among c f empty = false
 among c f (note p d j) = eqb d c && f j
 
-pub sees-channel : (c : ℕ) (n : ℕ → Slot) (s : Generators) → Sized s → Sees n s → Sees (λ g. freed (isOf c) false (n g)) (silenced (Channel c) s)
+pub sees-channel : (c : ℕ) (n : ℕ → Slot) (s : Generators) → Sized s
+    → Sees n s → Sees (λ g. freed (isOf c) false (n g)) (silenced (Channel c) s)
 unfolding leaves isAmong
 sees-channel c n s z e g =
     ap (freed (isOf c) false) (e g)
     ∙ sym (slot-silenced (isOf c) (eqb (at s g .channel) c) (at s g .state) (at s g .channel) (at s g .key) refl refl)
     ∙ ap slotOf (sym (silenced-at (Channel c) s z g))
 
-pub sees-group : (c k : ℕ) (n : ℕ → Slot) (s : Generators) → Sized s → Sees n s → Sees (λ g. freed (among c (excludes k)) false (n g)) (silenced (Group c k) s)
+pub sees-group : (c k : ℕ) (n : ℕ → Slot) (s : Generators) → Sized s → Sees n s
+    → Sees (λ g. freed (among c (excludes k)) false (n g)) (silenced (Group c k) s)
 unfolding leaves isAmong
 sees-group c k n s z e g =
     ap (freed (among c (excludes k)) false) (e g)
-    ∙ sym (slot-silenced (among c (excludes k)) (eqb (at s g .channel) c && excludes k (at s g .key)) (at s g .state) (at s g .channel) (at s g .key) refl refl)
+    ∙ sym (slot-silenced (among c (excludes k)) (eqb (at s g .channel) c && excludes k (at s g .key))
+    (at s g .state) (at s g .channel) (at s g .key) refl refl)
     ∙ ap slotOf (sym (silenced-at (Group c k) s z g))
 
 -- a generator that is reported falls silent
@@ -169,12 +193,14 @@ sees-one h n s z e g = go (eqb g h) refl ∙ ap slotOf (sym (silenced-at (One h)
     kept true = refl
     kept false = refl
 
-    go : (b : Bool) → eqb g h ≡ b → (if b then empty else n g) ≡ slotOf (if isSounding (at s g) && b then generator 0 0 0 else at s g)
+    go : (b : Bool) → eqb g h ≡ b
+        → (if b then empty else n g) ≡ slotOf (if isSounding (at s g) && b then generator 0 0 0 else at s g)
     go true q = idle-slot (isIdle (at s g)) refl
     go false q = e g ∙ kept (isSounding (at s g))
 
 -- an assigned generator has the new note
-pub sees-assigned : (h c k : ℕ) (n : ℕ → Slot) (s : Generators) → Sized s → h < 64 → Sees n s → Sees (put n h (note false c k)) (assigned h c k s)
+pub sees-assigned : (h c k : ℕ) (n : ℕ → Slot) (s : Generators) → Sized s
+    → h < 64 → Sees n s → Sees (put n h (note false c k)) (assigned h c k s)
 sees-assigned h c k n s z l e g = go (eqb g h) ∙ ap slotOf (sym (assigned-at h c k s z l g))
   where
     go : (b : Bool) → (if b then note false c k else n g) ≡ slotOf (if b then generator 1 c k else at s g)
@@ -188,12 +214,14 @@ sees-silent g = rw (blank {A = ℕ} 0 64 g)
 
 -- ---- steps 2 and 3 together
 
-ended-twice : (c k : ℕ) (x : Slot) → freed (among c (excludes k)) false (freed (isOfKey c k) false x) ≡ freed (isEnded true c k) false x
+ended-twice : (c k : ℕ) (x : Slot)
+    → freed (among c (excludes k)) false (freed (isOfKey c k) false x) ≡ freed (isEnded true c k) false x
 ended-twice c k empty = refl
 ended-twice c k (note p d j) = go (eqb d c) refl (eqb j k) (excludes k j) refl
   where
     go : (a : Bool) → eqb d c ≡ a → (b e : Bool) → excludes k j ≡ e
-        → freed (among c (excludes k)) false (if a && b then empty else note p d j) ≡ (if a && (b || e) then empty else note p d j)
+        → freed (among c (excludes k)) false (if a && b then empty else note p d j)
+        ≡ (if a && (b || e) then empty else note p d j)
     go false q b e r = rw q
     go true q true e r = refl
     go true q false e r = rw (q, r)
@@ -207,9 +235,11 @@ ended-once c k (note p d j) = go (eqb d c) (eqb j k)
     go true true = refl
     go true false = refl
 
-pub sees-cleared : (r : Bool) (c k : ℕ) (n : ℕ → Slot) (s : Generators) → Ordered s → Sees n s → Sees (λ g. freed (isEnded r c k) false (n g)) (cleared r c k s)
+pub sees-cleared : (r : Bool) (c k : ℕ) (n : ℕ → Slot) (s : Generators) → Ordered s
+    → Sees n s → Sees (λ g. freed (isEnded r c k) false (n g)) (cleared r c k s)
 unfolding cleared
 sees-cleared true c k n s o e g =
     sym (ended-twice c k (n g))
-    ∙ sees-group c k _ (changed (ReleaseNote c k) s) (changed-ordered (ReleaseNote c k) s o .sized) (sees-changed (ReleaseNote c k) n s (o .sized) e) g
+    ∙ sees-group c k _ (changed (ReleaseNote c k) s) (changed-ordered (ReleaseNote c k) s o .sized)
+    (sees-changed (ReleaseNote c k) n s (o .sized) e) g
 sees-cleared false c k n s o e g = sym (ended-once c k (n g)) ∙ sees-changed (ReleaseNote c k) n s (o .sized) e g

@@ -44,45 +44,57 @@ use Rattle.other_messages.specs.OtherMessages.{playNoteOff, playControl}
 use Rattle.other_messages.specs.OtherMessages as of-others
 use Rattle.reports.specs.Reports.{reported}
 use Rattle.exclusive.specs.Exclusive.{newTable}
-use Rattle.note_book.specs.Book.{Slot, empty, note, Book, withHolds, withTable, freshBook, shareOf, isRhythm, pedalDown, isDown, isOnPedal, isOf, isOfKey, freed, allFreed, put, keepNoteOff, holdAfter, notesAfter, keepControl, keepMessage, isOfMasked, keepTable, keepReport}
+use Rattle.note_book.specs.Book.{Slot, empty, note, Book, withHolds, withTable, freshBook}
+use Rattle.note_book.specs.Book.{shareOf, isRhythm, pedalDown, isDown, isOnPedal, isOf, isOfKey}
+use Rattle.note_book.specs.Book.{freed, allFreed, put, keepNoteOff, holdAfter, notesAfter}
+use Rattle.note_book.specs.Book.{keepControl, keepMessage, isOfMasked, keepTable, keepReport}
 use Rattle.note_book.specs.Claim.{slotOf}
 use Rattle.note_book.proofs.Playable.{playable-changed, playable-silenced, playable-restated, playable-silent}
-use Rattle.note_book.proofs.Sees.{slot-freed, means, pedals, sees-restated, sees-changed, sees-channel, sees-one, sees-silent}
+use Rattle.note_book.proofs.Sees.{slot-freed, means, pedals, sees-restated}
+use Rattle.note_book.proofs.Sees.{sees-changed, sees-channel, sees-one, sees-silent}
 use Rattle.note_book.proofs.Pigeons.{IsListed}
-use Rattle.note_book.proofs.Matches.{quota, Matches, matches-notes, freed-listed, listed-unmasked, same-rhythm, note-law}
+use Rattle.note_book.proofs.Matches.{quota, Matches, matches-notes, freed-listed}
+use Rattle.note_book.proofs.Matches.{listed-unmasked, same-rhythm, note-law}
 
 -- ---- what frees notes and nothing else
 
-matches-changed : (h : Change) (i : Instrument) (b : Book) → Matches i b → Matches (withGenerators i (changed h (i .generators))) (allFreed (means h) (pedals h) b)
+matches-changed : (h : Change) (i : Instrument) (b : Book) → Matches i b
+    → Matches (withGenerators i (changed h (i .generators))) (allFreed (means h) (pedals h) b)
 matches-changed h i b m =
     matches-notes i b m (changed h (i .generators)) _ (playable-changed h (b .polyphony) (i .generators) (m .playable))
     (sees-changed h (b .notes) (i .generators) (m .playable .ordered .sized) (m .notes))
     (λ g. freed-listed (quota b) (means h) (pedals h) (b .notes g) (m .unmasked g))
 
-matches-silenced : (c : ℕ) (i : Instrument) (b : Book) → Matches i b → Matches (withGenerators i (silenced (leaving.Channel c) (i .generators))) (allFreed (isOf c) false b)
+matches-silenced : (c : ℕ) (i : Instrument) (b : Book) → Matches i b
+    → Matches (withGenerators i (silenced (leaving.Channel c) (i .generators))) (allFreed (isOf c) false b)
 matches-silenced c i b m =
-    matches-notes i b m (silenced (leaving.Channel c) (i .generators)) _ (playable-silenced (leaving.Channel c) (b .polyphony) (i .generators) (m .playable))
+    matches-notes i b m (silenced (leaving.Channel c) (i .generators)) _
+    (playable-silenced (leaving.Channel c) (b .polyphony) (i .generators) (m .playable))
     (sees-channel c (b .notes) (i .generators) (m .playable .ordered .sized) (m .notes))
     (λ g. freed-listed (quota b) (isOf c) false (b .notes g) (m .unmasked g))
 
 same-pedal : (i : Instrument) (b : Book) → Matches i b → (c : ℕ) → 1 ≤ c → of-instrument.pedalDown i c ≡ pedalDown b c
 same-pedal i b m c h = ap (leb 64) (m .holds c h)
 
-step-note-off : (i : Instrument) (b : Book) → Matches i b → (c k : ℕ) → 1 ≤ c → Matches (playNoteOff i c k) (keepNoteOff b c k)
+step-note-off : (i : Instrument) (b : Book) → Matches i b
+    → (c k : ℕ) → 1 ≤ c → Matches (playNoteOff i c k) (keepNoteOff b c k)
 unfolding playNoteOff
 step-note-off i b m c k h = rw (same-rhythm i b m c) (go (isRhythm b c))
   where
-    go : (r : Bool) → Matches (if r then i else withGenerators i (changed (change.NoteOff (of-instrument.pedalDown i c) c k) (i .generators)))
+    go : (r : Bool) → Matches (if r then i
+        else withGenerators i (changed (change.NoteOff (of-instrument.pedalDown i c) c k) (i .generators)))
         (if r then b else allFreed (λ s. isDown s && isOfKey c k s) (pedalDown b c) b)
     go true = m
     go false =
-        subst (λ (x : Bool). Matches (withGenerators i (changed (change.NoteOff x c k) (i .generators))) (allFreed (λ s. isDown s && isOfKey c k s) (pedalDown b c) b))
+        subst (λ (x : Bool). Matches (withGenerators i (changed (change.NoteOff x c k) (i .generators)))
+        (allFreed (λ s. isDown s && isOfKey c k s) (pedalDown b c) b))
         (sym (same-pedal i b m c h)) (matches-changed (change.NoteOff (pedalDown b c) c k) i b m)
 
 -- ---- a channel's numbers
 
 -- the record of channel c is replaced, and the book has its hold
-matches-channel : (i : Instrument) (b : Book) → Matches i b → (c : ℕ) → 1 ≤ c → c ≤ 16 → (x : Channel) (h : ℕ → ℕ) → x .hold ≡ h c → ((d : ℕ) → (d ≡ c → ⊥) → h d ≡ b .holds d)
+matches-channel : (i : Instrument) (b : Book) → Matches i b → (c : ℕ) → 1 ≤ c → c ≤ 16
+    → (x : Channel) (h : ℕ → ℕ) → x .hold ≡ h c → ((d : ℕ) → (d ≡ c → ⊥) → h d ≡ b .holds d)
     → Matches (withChannel i c x) (withHolds b h)
 unfolding withChannel channelOf channelAt replaced
 matches-channel i b m c lo hi x h e others =
@@ -98,25 +110,31 @@ matches-channel i b m c lo hi x h e others =
       unmasked = m .unmasked;
     }
   where
-    hold : (d : ℕ) → 1 ≤ d → (y : Bool) → eqb d c ≡ y → getD (set (i .channels) (c - 1) x) (d - 1) of-channel.fresh .hold ≡ h d
+    hold : (d : ℕ) → 1 ≤ d → (y : Bool) → eqb d c ≡ y
+        → getD (set (i .channels) (c - 1) x) (d - 1) of-channel.fresh .hold ≡ h d
     hold d l true q =
         let z = m .sixteen in
-        rw (eqb-true d c q) (ap (λ (y : Channel). y .hold) (getD-set-same (i .channels) (c - 1) x of-channel.fresh (omega arith)) ∙ e)
+        rw (eqb-true d c q)
+        (ap (λ (y : Channel). y .hold) (getD-set-same (i .channels) (c - 1) x of-channel.fresh (omega arith)) ∙ e)
     hold d l false q =
         let n = eqb-false d c q in
-        ap (λ (y : Channel). y .hold) (getD-set-other (i .channels) (c - 1) (d - 1) x of-channel.fresh (λ (z : d - 1 ≡ c - 1). n (omega arith))) ∙ m .holds d l ∙ sym (others d n)
+        ap (λ (y : Channel). y .hold)
+        (getD-set-other (i .channels) (c - 1) (d - 1) x of-channel.fresh (λ (z : d - 1 ≡ c - 1). n (omega arith)))
+        ∙ m .holds d l ∙ sym (others d n)
 
 -- a controller's hold: 64 and 121 alone touch it
 controlled-hold : (x : Channel) (n v : ℕ) → controlled x n v .hold ≡ holdAfter n v (x .hold)
 unfolding controlled reset stored
 controlled-hold x n v = go (eqb n 64) refl (eqb n 121 && eqb v 0) refl
   where
-    go : (a : Bool) → eqb n 64 ≡ a → (b : Bool) → eqb n 121 && eqb v 0 ≡ b → controlled x n v .hold ≡ (if a then v else if b then 0 else x .hold)
+    go : (a : Bool) → eqb n 64 ≡ a → (b : Bool) → eqb n 121 && eqb v 0 ≡ b
+        → controlled x n v .hold ≡ (if a then v else if b then 0 else x .hold)
     go true p b q = rw (eqb-true n 64 p)
     go false p true q = rw q
     go false p false q = rw (q, p)
 
-step-control : (i : Instrument) (b : Book) → Matches i b → (c n v : ℕ) → 1 ≤ c → c ≤ 16 → Matches (playControl i c n v) (keepControl b c n v)
+step-control : (i : Instrument) (b : Book) → Matches i b → (c n v : ℕ)
+    → 1 ≤ c → c ≤ 16 → Matches (playControl i c n v) (keepControl b c n v)
 unfolding playControl of-others.notesAfter withChannel
 step-control i b m c n v lo hi = go (liftsPedal n v) (silencesAll n v) (endsAll n v)
   where
@@ -141,14 +159,19 @@ step-control i b m c n v lo hi = go (liftsPedal n v) (silencesAll n v) (endsAll 
     up′ : Bool
     up′ = of-instrument.pedalDown i c && not (of-instrument.isRhythm i c)
 
-    all-off : Matches (withGenerators i (changed (change.AllNotesOff up′ c) s)) (allFreed (λ y. isDown y && isOf c y) up b)
+    all-off : Matches (withGenerators i (changed (change.AllNotesOff up′ c) s))
+        (allFreed (λ y. isDown y && isOf c y) up b)
     all-off =
-        subst (λ (y : Bool). Matches (withGenerators i (changed (change.AllNotesOff y c) s)) (allFreed (λ y. isDown y && isOf c y) up b))
-        (ap₂ (λ (y z : Bool). y && not z) (sym (same-pedal i b m c lo)) (sym (same-rhythm i b m c))) (matches-changed (change.AllNotesOff up c) i b m)
+        subst (λ (y : Bool). Matches (withGenerators i (changed (change.AllNotesOff y c) s))
+        (allFreed (λ y. isDown y && isOf c y) up b))
+        (ap₂ (λ (y z : Bool). y && not z) (sym (same-pedal i b m c lo)) (sym (same-rhythm i b m c)))
+        (matches-changed (change.AllNotesOff up c) i b m)
 
     go : (p q r : Bool)
-        → Matches (withGenerators (withChannel i c x) (if p then changed (change.PedalUp c) s else if q then silenced (leaving.Channel c) s else if r then changed (change.AllNotesOff up′ c) s else s))
-        (withHolds (if p then allFreed (λ y. isOnPedal y && isOf c y) false b else if q then allFreed (isOf c) false b else if r then allFreed (λ y. isDown y && isOf c y) up b else b) h)
+        → Matches (withGenerators (withChannel i c x) (if p then changed (change.PedalUp c) s
+        else if q then silenced (leaving.Channel c) s else if r then changed (change.AllNotesOff up′ c) s else s))
+        (withHolds (if p then allFreed (λ y. isOnPedal y && isOf c y) false b
+        else if q then allFreed (isOf c) false b else if r then allFreed (λ y. isDown y && isOf c y) up b else b) h)
     go true q r = matches-channel _ _ (matches-changed (change.PedalUp c) i b m) c lo hi x h own others
     go false true r = matches-channel _ _ (matches-silenced c i b m) c lo hi x h own others
     go false false true = matches-channel _ _ all-off c lo hi x h own others
@@ -165,13 +188,16 @@ IsSent (Program c n) = (1 ≤ c) × (c ≤ 16)
 IsSent (Bend c msb lsb) = (1 ≤ c) × (c ≤ 16)
 IsSent Other = Unit {0}
 
-pub step-message : (i : Instrument) (b : Book) → Matches i b → (x : Message) → IsSent x → Matches (played i x .instrument) (keepMessage b x (played i x .answer))
+pub step-message : (i : Instrument) (b : Book) → Matches i b → (x : Message)
+    → IsSent x → Matches (played i x .instrument) (keepMessage b x (played i x .answer))
 unfolding played keepMessage
 step-message i b m (NoteOn c k) h = note-law i b m c k .matches
 step-message i b m (NoteOff c k) h = step-note-off i b m c k h
 step-message i b m (Control c n v) h = step-control i b m c n v (h .0) (h .1)
-step-message i b m (Program c n) h = matches-channel i b m c (h .0) (h .1) (withProgram (channelOf i c) n) (b .holds) (m .holds c (h .0)) (λ d n. refl)
-step-message i b m (Bend c msb lsb) h = matches-channel i b m c (h .0) (h .1) (withBend (channelOf i c) msb lsb) (b .holds) (m .holds c (h .0)) (λ d n. refl)
+step-message i b m (Program c n) h =
+    matches-channel i b m c (h .0) (h .1) (withProgram (channelOf i c) n) (b .holds) (m .holds c (h .0)) (λ d n. refl)
+step-message i b m (Bend c msb lsb) h = matches-channel i b m c (h .0) (h .1)
+    (withBend (channelOf i c) msb lsb) (b .holds) (m .holds c (h .0)) (λ d n. refl)
 step-message i b m Other h = m
 
 -- ---- a new table
@@ -181,8 +207,11 @@ unfolding listed
 channel-of-listed c [] h e = absurd (false≢true e)
 channel-of-listed c (x ∷ l) h e = go (eqb c (x .channel)) refl e (channel-of-listed c l (h .1))
   where
-    go : (b : Bool) → eqb c (x .channel) ≡ b → b || listed c l ≡ true → (listed c l ≡ true → isChannel c ≡ true) → isChannel c ≡ true
-    go true q e ih = let k = h .0 in rw (eqb-true c (x .channel) q, le-leb 1 (x .channel) (k .0), le-leb (x .channel) 16 (k .1))
+    go : (b : Bool) → eqb c (x .channel) ≡ b → b || listed c l ≡ true
+        → (listed c l ≡ true → isChannel c ≡ true) → isChannel c ≡ true
+    go true q e ih =
+        let k = h .0 in
+        rw (eqb-true c (x .channel) q, le-leb 1 (x .channel) (k .0), le-leb (x .channel) 16 (k .1))
     go false q e ih = ih e
 
 -- a busy generator whose channel is newly masked
@@ -206,25 +235,32 @@ module _ (i : Instrument) (b : Book) (m : Matches i b) (t : Table) (l : List Ent
       ∙ masked-unlisted c (quota b)
       ∙ ap not h
 
-  newly : (c : ℕ) → listed c (quota b) ≡ true → isNewlyMasked (i .polyphony) (i .table) t c ≡ isMasked (shareOf (withTable b l) c)
+  newly : (c : ℕ) → listed c (quota b) ≡ true
+      → isNewlyMasked (i .polyphony) (i .table) t c ≡ isMasked (shareOf (withTable b l) c)
   newly c h =
-      rw (channel-of-listed c (quota b) (shares-channels (b .polyphony) 0 (b .table) (m .well-formed .channels)) h, old-share c h)
+      rw (
+        channel-of-listed c (quota b) (shares-channels (b .polyphony) 0 (b .table) (m .well-formed .channels)) h,
+        old-share c h,
+      )
       (ap isMasked (new-share c))
 
   abbrev way : Generator → Bool
   way x = gives-way (i .polyphony) (i .table) t x
 
   slot-masked : (n c k : ℕ) → IsListed (quota b) (slotOf (generator n c k))
-      → slotOf (if way (generator n c k) then generator 3 c k else generator n c k) ≡ freed (isOfMasked (withTable b l)) false (slotOf (generator n c k))
+      → slotOf (if way (generator n c k) then generator 3 c k else generator n c k)
+      ≡ freed (isOfMasked (withTable b l)) false (slotOf (generator n c k))
   slot-masked n c k h =
       slot-freed (isOfMasked (withTable b l)) (way (generator n c k)) (generator 3 c k) n c k refl
-      (λ q. ap (λ (x : ℕ). way (generator x c k)) q ∙ newly c (rw q at h)) (λ q. ap (λ (x : ℕ). way (generator x c k)) q ∙ newly c (rw q at h))
+      (λ q. ap (λ (x : ℕ). way (generator x c k)) q ∙ newly c (rw q at h))
+      (λ q. ap (λ (x : ℕ). way (generator x c k)) q ∙ newly c (rw q at h))
 
   masked-listed : (x : Slot) → IsListed (quota (withTable b l)) (freed (isOfMasked (withTable b l)) false x)
   masked-listed empty = tt
   masked-listed (note p c k) = go (isMasked (shareOf (withTable b l) c)) refl
     where
-      go : (a : Bool) → isMasked (shareOf (withTable b l) c) ≡ a → IsListed (quota (withTable b l)) (if a then empty else note p c k)
+      go : (a : Bool) → isMasked (shareOf (withTable b l) c) ≡ a
+          → IsListed (quota (withTable b l)) (if a then empty else note p c k)
       go true h = tt
       go false h = listed-unmasked c (quota (withTable b l)) h
 
@@ -237,10 +273,13 @@ module _ (i : Instrument) (b : Book) (m : Matches i b) (t : Table) (l : List Ent
         table = e;
         sixteen = m .sixteen;
         holds = m .holds;
-        playable = playable-restated (b .polyphony) (i .generators) (m .playable) way 3 (way-busy (i .polyphony) (i .table) t) refl (omega arith);
+        playable = playable-restated (b .polyphony) (i .generators)
+            (m .playable) way 3 (way-busy (i .polyphony) (i .table) t) refl (omega arith);
         notes =
-            sees-restated (b .notes) (i .generators) (m .playable .ordered .sized) way 3 (way-busy (i .polyphony) (i .table) t) (isOfMasked (withTable b l)) false
-            (λ g. slot-masked (at (i .generators) g .state) (at (i .generators) g .channel) (at (i .generators) g .key) (subst (IsListed (quota b)) (m .notes g) (m .unmasked g)))
+            sees-restated (b .notes) (i .generators) (m .playable .ordered .sized) way 3
+            (way-busy (i .polyphony) (i .table) t) (isOfMasked (withTable b l)) false
+            (λ g. slot-masked (at (i .generators) g .state) (at (i .generators) g .channel)
+            (at (i .generators) g .key) (subst (IsListed (quota b)) (m .notes g) (m .unmasked g)))
             (m .notes);
         well-formed = w;
         unmasked = λ g. masked-listed (b .notes g);
@@ -248,27 +287,32 @@ module _ (i : Instrument) (b : Book) (m : Matches i b) (t : Table) (l : List Ent
 
 -- ---- a report
 
-put-empty : (q : List Entry) (n : ℕ → Slot) (h : ℕ) → ((g : ℕ) → IsListed q (n g)) → (g : ℕ) → IsListed q (put n h empty g)
+put-empty : (q : List Entry) (n : ℕ → Slot) (h : ℕ)
+    → ((g : ℕ) → IsListed q (n g)) → (g : ℕ) → IsListed q (put n h empty g)
 put-empty q n h u g = go (eqb g h)
   where
     go : (b : Bool) → IsListed q (if b then empty else n g)
     go true = tt
     go false = u g
 
-pub step-report : (i : Instrument) (b : Book) → Matches i b → (g : ℕ) → Matches (reported i g .instrument) (keepReport b g (reported i g .answer))
+pub step-report : (i : Instrument) (b : Book) → Matches i b → (g : ℕ)
+    → Matches (reported i g .instrument) (keepReport b g (reported i g .answer))
 unfolding reported
 step-report i b m g = go (leb (i .polyphony) g) (isIdle (at (i .generators) g))
   where
     ended : Reply
     ended = replied Done (withGenerators i (silenced (leaving.One g) (i .generators)))
 
-    go : (x y : Bool) → Matches ((if x then replied (Number 12) i else if y then replied (Number 13) i else ended) .instrument)
+    go : (x y : Bool)
+        → Matches ((if x then replied (Number 12) i else if y then replied (Number 13) i else ended) .instrument)
         (keepReport b g ((if x then replied (Number 12) i else if y then replied (Number 13) i else ended) .answer))
     go true y = m
     go false true = m
     go false false =
-        matches-notes i b m (silenced (leaving.One g) (i .generators)) (put (b .notes) g empty) (playable-silenced (leaving.One g) (b .polyphony) (i .generators) (m .playable))
-        (sees-one g (b .notes) (i .generators) (m .playable .ordered .sized) (m .notes)) (put-empty (quota b) (b .notes) g (m .unmasked))
+        matches-notes i b m (silenced (leaving.One g) (i .generators)) (put (b .notes) g empty)
+        (playable-silenced (leaving.One g) (b .polyphony) (i .generators) (m .playable))
+        (sees-one g (b .notes) (i .generators) (m .playable .ordered .sized) (m .notes))
+        (put-empty (quota b) (b .notes) g (m .unmasked))
 
 -- ---- a start and a reset
 
@@ -278,7 +322,8 @@ fresh-hold j = go (ltb j 16) refl
   where
     go : (b : Bool) → ltb j 16 ≡ b → getD (replicate 16 of-channel.fresh) j of-channel.fresh .hold ≡ 0
     go true t = ap (λ (x : Channel). x .hold) (getD-replicate 16 j of-channel.fresh of-channel.fresh (ltb-true j 16 t))
-    go false t = ap (λ (x : Channel). x .hold) (List·getD-eq-default (replicate 16 of-channel.fresh) of-channel.fresh {n = j} (ltb-false j 16 t))
+    go false t = ap (λ (x : Channel). x .hold)
+        (List·getD-eq-default (replicate 16 of-channel.fresh) of-channel.fresh {n = j} (ltb-false j 16 t))
 
 pub step-fresh : (p id : ℕ) → p ≤ 64 → Matches (fresh p id) (freshBook p id)
 unfolding fresh channelOf channelAt
@@ -295,5 +340,6 @@ step-fresh p id h =
       unmasked = λ g. tt;
     }
 
-pub step-reset : (i : Instrument) (b : Book) → Matches i b → Matches (fresh (i .polyphony) (i .id)) (freshBook (b .polyphony) (b .id))
+pub step-reset : (i : Instrument) (b : Book) → Matches i b
+    → Matches (fresh (i .polyphony) (i .id)) (freshBook (b .polyphony) (b .id))
 step-reset i b m = rw (m .polyphony, m .id) (step-fresh (b .polyphony) (b .id) (m .playable .few))

@@ -19,9 +19,11 @@ use Rattle.allocation.specs.Allocation.{isStolen}
 use Rattle.playing.specs.declared.Answer.{Answer}
 use Rattle.playing.specs.declared.Answer.the-variants.{Nothing, Done, Note, NoNote, Number}
 use Rattle.events.specs.declared.Event.{Event}
-use Rattle.note_book.specs.Book.{Book, isNote, isOf, isEnded, remaining, Heard, nothing, message, newTable, reset, report}
+use Rattle.note_book.specs.Book.{Book, isNote, isOf, isEnded, remaining, Heard}
+use Rattle.note_book.specs.Book.{nothing, message, newTable, reset, report}
 use Rattle.note_book.specs.Book as of-book
-use Rattle.note_book.specs.Claim.{IsWithin, isLoss, isServed, Fair, Safe, IsInRun, System, after, IsExact, Always, Each, IsRun, StaysWithin, Demand3, Live, begin}
+use Rattle.note_book.specs.Claim.{IsWithin, isLoss, isServed, Fair, Safe, IsInRun, System, after}
+use Rattle.note_book.specs.Claim.{IsExact, Always, Each, IsRun, StaysWithin, Demand3, Live, begin}
 use Rattle.note_book.proofs.Demand3.{demand-3}
 
 -- ---- the words, whatever the device
@@ -39,7 +41,8 @@ in-run reset t r = absurd (r refl)
 in-run (report g) t r = tt
 
 -- a run is any part of the list, with what came before it
-pub run-anywhere : (S : System) (s : S .State) (l : List (S .Event)) → Demand3 S s l → (pre run post : List (S .Event)) → l ≡ pre ++ (run ++ post) → IsRun S (after S s pre) run
+pub run-anywhere : (S : System) (s : S .State) (l : List (S .Event)) → Demand3 S s l
+    → (pre run post : List (S .Event)) → l ≡ pre ++ (run ++ post) → IsRun S (after S s pre) run
     → (c : ℕ) → StaysWithin S c (after S s pre) run → Each S (Safe c) (after S s pre) run
 run-anywhere S s l d = d .shared
 
@@ -47,7 +50,8 @@ run-anywhere S s l d = d .shared
 pub served-note : (b : Book) (c k : ℕ) (a : Answer) → Safe c b a c k → (g : ℕ) × ((w : Was) × (a ≡ Note c k g w))
 served-note b c k a s = go a (s .0 refl)
   where
-    same : (x y g : ℕ) (w : Was) (p : Bool) → eqb x c ≡ p → (q : Bool) → eqb y k ≡ q → p && q ≡ true → (h : ℕ) × ((v : Was) × (Note x y g w ≡ Note c k h v))
+    same : (x y g : ℕ) (w : Was) (p : Bool) → eqb x c ≡ p → (q : Bool) → eqb y k ≡ q
+        → p && q ≡ true → (h : ℕ) × ((v : Was) × (Note x y g w ≡ Note c k h v))
     same x y g w true p true q e = (g, (w, rw (eqb-true x c p, eqb-true y k q)))
     same x y g w true p false q e = absurd (false≢true e)
     same x y g w false p q r e = absurd (false≢true e)
@@ -60,7 +64,8 @@ served-note b c k a s = go a (s .0 refl)
     go (Number n) e = absurd (false≢true e)
 
 -- where a note of channel c still stands, no other may be put: channel c would be robbed
-pub robbed-unsafe : (b : Book) (c d k g : ℕ) (w : Was) → isOf c (remaining b d k g) ≡ true → Safe c b (Note d k g w) d k → ⊥
+pub robbed-unsafe : (b : Book) (c d k g : ℕ) (w : Was)
+    → isOf c (remaining b d k g) ≡ true → Safe c b (Note d k g w) d k → ⊥
 robbed-unsafe b c d k g w e s = false≢true (sym (s .1) ∙ e)
 
 -- a loss is fair only where every generator had a note, and none that the new one ends
@@ -73,7 +78,8 @@ pub stolen-lost : (b : Book) (c k x y g : ℕ) → isLoss b c k (Note x y g Stol
 stolen-lost b c k x y g = refl
 
 -- "makes a note leave as stolen", whatever the answer calls it
-pub leaving-lost : (b : Book) (c k x y g : ℕ) (w : Was) → isNote (remaining b c k g) ≡ true → isLoss b c k (Note x y g w) ≡ true
+pub leaving-lost : (b : Book) (c k x y g : ℕ) (w : Was)
+    → isNote (remaining b c k g) ≡ true → isLoss b c k (Note x y g w) ≡ true
 leaving-lost b c k x y g w e = go (isStolen w) e
   where
     go : (p : Bool) → isNote (remaining b c k g) ≡ true → p || isNote (remaining b c k g) ≡ true
@@ -81,7 +87,8 @@ leaving-lost b c k x y g w e = go (isStolen w) e
     go false e = e
 
 -- on an unmasked channel every answer but note
-pub turned-lost : (b : Book) (c k : ℕ) (a : Answer) → isMasked (of-book.shareOf b c) ≡ false → ((x y g : ℕ) (w : Was) → a ≡ Note x y g w → ⊥) → isLoss b c k a ≡ true
+pub turned-lost : (b : Book) (c k : ℕ) (a : Answer) → isMasked (of-book.shareOf b c) ≡ false
+    → ((x y g : ℕ) (w : Was) → a ≡ Note x y g w → ⊥) → isLoss b c k a ≡ true
 turned-lost b c k (Note x y g w) u n = absurd (n x y g w refl)
 turned-lost b c k Nothing u n = ap not u
 turned-lost b c k Done u n = ap not u
@@ -92,7 +99,8 @@ turned-lost b c k (Number m) u n = ap not u
 abbrev pub IsGiven : Answer → Type 0
 IsGiven a = (x : ℕ) × ((y : ℕ) × ((g : ℕ) × ((w : Was) × ((a ≡ Note x y g w) × (isStolen w ≡ false)))))
 
-pub not-lost : (b : Book) (c k : ℕ) (a : Answer) → isMasked (of-book.shareOf b c) ≡ false → isLoss b c k a ≡ false → IsGiven a
+pub not-lost : (b : Book) (c k : ℕ) (a : Answer)
+    → isMasked (of-book.shareOf b c) ≡ false → isLoss b c k a ≡ false → IsGiven a
 not-lost b c k (Note x y g w) u e = (x, (y, (g, (w, (refl, go (isStolen w) e)))))
   where
     go : (p : Bool) → p || isNote (remaining b c k g) ≡ false → p ≡ false
@@ -111,9 +119,12 @@ exact-after S s [] a = a
 exact-after S s (e ∷ l) a = exact-after S (S .next s e) l (a .1)
 
 -- no generator from P on sounds
-beyond-idle : (S : System) (s : S .State) → IsExact S s → (g : ℕ) → S .book s .polyphony ≤ g → isIdle (at (S .instrument s .generators) g) ≡ true
+beyond-idle : (S : System) (s : S .State) → IsExact S s → (g : ℕ)
+    → S .book s .polyphony ≤ g → isIdle (at (S .instrument s .generators) g) ≡ true
 beyond-idle S s e = e .beyond
 
 -- whatever was played; P is what the book took from the start
-pub none-beyond : (p id : ℕ) (l : List Event) (g : ℕ) → after Live (begin p id) l .book .polyphony ≤ g → isIdle (at (after Live (begin p id) l .device .instrument .generators) g) ≡ true
-none-beyond p id l = beyond-idle Live (after Live (begin p id) l) (exact-after Live (begin p id) l (demand-3 p id l .exact))
+pub none-beyond : (p id : ℕ) (l : List Event) (g : ℕ) → after Live (begin p id) l .book .polyphony ≤ g
+    → isIdle (at (after Live (begin p id) l .device .instrument .generators) g) ≡ true
+none-beyond p id l =
+    beyond-idle Live (after Live (begin p id) l) (exact-after Live (begin p id) l (demand-3 p id l .exact))

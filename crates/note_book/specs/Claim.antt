@@ -21,7 +21,8 @@ use Rattle.events.specs.declared.Event.{Event}
 use Rattle.events.specs.Events.{taken}
 use Rattle.note_book.specs.Book.{Slot, empty, note, Book, ifNote, startBook, shareOf, isRhythm}
 use Rattle.note_book.specs.Book.{isNote, isOf, isEnded, remaining, notesOn, countAt}
-use Rattle.note_book.specs.Book.{Heard, nothing, message, newTable, reset, report, eventHeard, splitterAfter, keep}
+use Rattle.note_book.specs.Book.{Heard, nothing, message, newTable, reset, report}
+use Rattle.note_book.specs.Book.{eventHeard, splitterAfter, keep}
 
 -- ---- what is claimed at a note-on of channel c and key k with answer a
 

@@ -5,7 +5,8 @@ ghost use Rattle.loops.specs.Cases.{orZero};
 ghost use Rattle.queries.specs.Queries.{generatorQuery, maskQuery, shareQuery};
 ghost use Rattle.service.specs.Page.{pageNumber, pageAfter, pageAnswer};
 ghost use Rattle.pitch.specs.Pitch.{pitchOf};
-ghost use Rattle.numbers.specs.Numbers.{wasNumber, numbersOf, generatorNumbers, maskNumbers, shareNumbers, pitchNumbers, GainsTold, GainsToldOf, refusedSong, songNumbers};
+ghost use Rattle.numbers.specs.Numbers.{wasNumber, numbersOf, generatorNumbers, maskNumbers, shareNumbers};
+ghost use Rattle.numbers.specs.Numbers.{pitchNumbers, GainsTold, GainsToldOf, refusedSong, songNumbers};
 use allocation::Was;
 use channels::Channel;
 use device::Device;
@@ -184,7 +185,8 @@ pub fn share_numbers(d: Device, channel: u8) -> ShareNumbers
 
 // The service page into a lent buffer: 0, or number 18 for a buffer that is too short.
 pub fn page_number(d: Device, page: &mut [u8]) -> u8
-    ensures { λ r. ⌜ (r ≡ orZero (pageNumber (pageAnswer (now (page .entry))))) × (now (page .exit) ≡ pageAfter d (now (page .entry))) ⌝ }
+    ensures { λ r. ⌜ (r ≡ orZero (pageNumber (pageAnswer (now (page .entry)))))
+        × (now (page .exit) ≡ pageAfter d (now (page .entry))) ⌝ }
 {
     match service::write_page(d, page) {
         PageAnswer::Written => 0,

@@ -16,7 +16,8 @@ use Rattle.loops.proofs.Search.{count-append}
 use Rattle.loops.proofs.Tests.{and-left, and-right, impossible}
 use Rattle.order.specs.Order.{each, times}
 
-pub times-next : (l : List ℕ) (c i n b : ℕ) → i < length l → n ≡ times (take i l) c → b ≡ bit (eqb (getD l i 0) c) → n + b ≡ times (take (i + 1) l) c
+pub times-next : (l : List ℕ) (c i n b : ℕ) → i < length l → n ≡ times (take i l) c
+    → b ≡ bit (eqb (getD l i 0) c) → n + b ≡ times (take (i + 1) l) c
 unfolding count
 times-next l c i n b h p q =
     let e : take (i + 1) l ≡ take i l ++ (getD l i 0 ∷ []) = rw add-one (take-suc l i 0 h) in

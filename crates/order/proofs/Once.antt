@@ -36,10 +36,16 @@ total-one x (suc n) = go (eqb x (n + 1)) (leb 1 x) (leb x n) (leb x (suc n)) ref
         → total (λ i. bit (eqb x (i + 1))) n ≡ bit (a && b) → total (λ i. bit (eqb x (i + 1))) n + bit e ≡ bit (a && c)
     go true true true c p q r s ih = let t = eqb-true x (n + 1) p in let u = leb-true x n r in absurd (omega arith)
     go true true false true p q r s ih = omega arith
-    go true true false false p q r s ih = let t = eqb-true x (n + 1) p in let u = leb-false x (suc n) s in absurd (omega arith)
+    go true true false false p q r s ih =
+        let t = eqb-true x (n + 1) p in
+        let u = leb-false x (suc n) s in
+        absurd (omega arith)
     go true false b c p q r s ih = let t = eqb-true x (n + 1) p in let u = leb-false 1 x q in absurd (omega arith)
     go false true true true p q r s ih = omega arith
-    go false true true false p q r s ih = let u = leb-true x n r in let v = leb-false x (suc n) s in absurd (omega arith)
+    go false true true false p q r s ih =
+        let u = leb-true x n r in
+        let v = leb-false x (suc n) s in
+        absurd (omega arith)
     go false true false true p q r s ih =
         let t = eqb-false x (n + 1) p in
         let u = leb-false x n r in
@@ -80,9 +86,14 @@ unfolding count
 members [] h = tt
 members (x ∷ l) h = go (leb 1 x) (leb x 16) refl refl (λ k. members l k)
   where
-    go : (a b : Bool) → leb 1 x ≡ a → leb x 16 ≡ b → (length l ≤ count (within 16) l → Members l) → ((1 ≤ x) × (x ≤ 16)) × Members l
-    go true true p q ih = ((leb-true 1 x p, leb-true x 16 q), ih (let e : bit (within 16 x) ≡ 1 = rw (p, q) in omega arith))
-    go true false p q ih = let e : bit (within 16 x) ≡ 0 = rw (p, q) in let k = count-le (within 16) l in absurd (omega arith)
+    go : (a b : Bool) → leb 1 x ≡ a → leb x 16 ≡ b
+        → (length l ≤ count (within 16) l → Members l) → ((1 ≤ x) × (x ≤ 16)) × Members l
+    go true true p q ih =
+        ((leb-true 1 x p, leb-true x 16 q), ih (let e : bit (within 16 x) ≡ 1 = rw (p, q) in omega arith))
+    go true false p q ih =
+        let e : bit (within 16 x) ≡ 0 = rw (p, q) in
+        let k = count-le (within 16) l in
+        absurd (omega arith)
     go false b p q ih = let e : bit (within 16 x) ≡ 0 = rw p in let k = count-le (within 16) l in absurd (omega arith)
 
 pub record Order (order : List ℕ) : Type 0 where
@@ -96,7 +107,8 @@ order-holds order h =
     let a = and-left (eqb (length order) 16) (each (λ i. eqb (times order (i + 1)) 1) 16) h in
     let b = and-right (eqb (length order) 16) (each (λ i. eqb (times order (i + 1)) 1) 16) h in
     let size : length order ≡ 16 = eqb-true (length order) 16 a in
-    let ones : (i : ℕ) → i < 16 → times order (i + 1) ≡ 1 = λ i k. eqb-true (times order (i + 1)) 1 (each-at (λ i. eqb (times order (i + 1)) 1) 16 i b k) in
+    let ones : (i : ℕ) → i < 16 → times order (i + 1) ≡ 1 =
+    λ i k. eqb-true (times order (i + 1)) 1 (each-at (λ i. eqb (times order (i + 1)) 1) 16 i b k) in
     let t = total-ones (λ (i : ℕ). times order (i + 1)) 16 ones in
     let c = total-times 16 order in
     record { size = size; channels = members order (omega arith); once = once ones }

@@ -25,7 +25,8 @@ number-length n h =
     let d : length (decimal n) ≤ 3 = decimal-length 2 20 n (omega arith) in
     rw (length-append (decimal n) (10 ∷ [])) (omega arith)
 
-pub line-whole : (n : ℕ) → n < 256 → (used : ℕ) {p q : List ℕ} → Put p 0 (numberLine n) used q → 323 ≤ length p → take used q ≡ numberLine n
+pub line-whole : (n : ℕ) → n < 256 → (used : ℕ) {p q : List ℕ}
+    → Put p 0 (numberLine n) used q → 323 ≤ length p → take used q ≡ numberLine n
 line-whole n b used {p} {q} put h =
     let l = number-length n b in
     let w = whole {p = p} {q = q} {t = numberLine n} {at = 0} {k = used} (omega arith) put in
@@ -52,6 +53,7 @@ room-of-short p = go (ltb (length p) 323)
     go false e = cc
 
 -- and then it stands there whole
-pub page-whole : (d : Device) (p q : List ℕ) (used : ℕ) → used ≡ pageRoom p → q ≡ pageAfter d p → 323 ≤ length p → take used q ≡ pageText d
+pub page-whole : (d : Device) (p q : List ℕ) (used : ℕ) → used ≡ pageRoom p
+    → q ≡ pageAfter d p → 323 ≤ length p → take used q ≡ pageText d
 unfolding pageAfter pageRoom
 page-whole d p q used u e h = rw (u, e, le-ltb (length p) 323 h) (take-at (pageText d) (drop 323 p) 323 (page-length d))

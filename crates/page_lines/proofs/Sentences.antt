@@ -1,6 +1,6 @@
 -- What the program `page` writes for an input, sentence by sentence: however the input is cut into reads it is the
--- same; a P or ID that does not come is 0; a refused start writes its number on a line, whatever comes behind it; a good
--- one the page of the device after the MIDI bytes.
+-- same; a P or ID that does not come is 0; a refused start writes its number on a line, whatever comes behind it; a
+-- good one the page of the device after the MIDI bytes.
 -- Assumes nothing.
 use Prim.Native.Nat.{ℕ, _≤_, _<_}
 use mathlib.Core.Path.{_≡_, refl, sym, ap, _∙_}
@@ -59,18 +59,23 @@ unfolding answerText ended afterAll
 refused-text l n e = rw e
 
 -- it is known at once: what comes behind it changes nothing
-pub known : (ps : List (List ℕ)) (rest : List ℕ) (n : ℕ) → partsTaken newLister ps .awaits ≡ Refused n → paged (flatten ps ++ rest) ≡ numberLine n
+pub known : (ps : List (List ℕ)) (rest : List ℕ) (n : ℕ)
+    → partsTaken newLister ps .awaits ≡ Refused n → paged (flatten ps ++ rest) ≡ numberLine n
 unfolding paged
 known ps rest n e =
     let l = partsTaken newLister ps in
-    let k : afterAll newLister (flatten ps ++ rest) ≡ l = after-parts newLister (flatten ps) rest ∙ ap (λ (x : Lister). afterAll x rest) (sym (parts-taken newLister ps)) ∙ nothing-changed l n e rest in
+    let k : afterAll newLister (flatten ps ++ rest) ≡ l =
+    after-parts newLister (flatten ps) rest
+    ∙ ap (λ (x : Lister). afterAll x rest) (sym (parts-taken newLister ps)) ∙ nothing-changed l n e rest in
     ap (λ (x : Lister). answerText (ended x)) k ∙ refused-text l n e
 
-pub refused-start : (p id n : ℕ) (bs : List ℕ) → started p id .answer ≡ answer.Number n → paged (p ∷ id ∷ bs) ≡ numberLine n
+pub refused-start : (p id n : ℕ) (bs : List ℕ)
+    → started p id .answer ≡ answer.Number n → paged (p ∷ id ∷ bs) ≡ numberLine n
 unfolding paged newLister afterAll after
 refused-start p id n bs e =
     let o = started p id in
-    ap (λ (x : Lister). answerText (ended x)) (nothing-changed (startLister o) n (stopped o n e) bs) ∙ refused-text (startLister o) n (stopped o n e)
+    ap (λ (x : Lister). answerText (ended x)) (nothing-changed (startLister o) n (stopped o n e) bs)
+    ∙ refused-text (startLister o) n (stopped o n e)
 
 -- R8.1, R8.2: a wrong P and a wrong own ID
 pub lines-written : (numberLine 1 ≡ 49 ∷ 10 ∷ []) × (numberLine 2 ≡ 50 ∷ 10 ∷ [])
@@ -88,7 +93,8 @@ wrong-id p id bs e h = refused-start p id 2 bs (rw (e, lt-ltb 126 id h)) ∙ lin
 -- ---- a good start
 
 -- one MIDI byte after the other
-plays : (l : Lister) (bs : List ℕ) → l .awaits ≡ Midi → (afterAll l bs .awaits ≡ Midi) × (afterAll l bs .device ≡ afterBytes (l .device) bs)
+plays : (l : Lister) (bs : List ℕ) → l .awaits ≡ Midi
+    → (afterAll l bs .awaits ≡ Midi) × (afterAll l bs .device ≡ afterBytes (l .device) bs)
 unfolding afterAll after afterMidi afterBytes
 plays l [] e = (e, refl)
 plays l (b ∷ bs) e = rw e (plays (afterMidi l b) bs refl)
@@ -97,7 +103,8 @@ page-text : (l : Lister) (d : Device) → l .awaits ≡ Midi → l .device ≡ d
 unfolding answerText ended afterAll
 page-text l d e f = rw e (ap pageText f)
 
-pub good-start : (p id : ℕ) (bs : List ℕ) → isWrongP p ≡ false → id ≤ 126 → paged (p ∷ id ∷ bs) ≡ pageText (afterBytes (freshDevice p id) bs)
+pub good-start : (p id : ℕ) (bs : List ℕ) → isWrongP p ≡ false → id ≤ 126
+    → paged (p ∷ id ∷ bs) ≡ pageText (afterBytes (freshDevice p id) bs)
 unfolding paged newLister afterAll after started startLister behindStart
 good-start p id bs e h =
     let l : Lister = record { awaits = Midi; at = 0; device = freshDevice p id } in
@@ -106,6 +113,7 @@ good-start p id bs e h =
 
 -- ---- without room for the page nothing is written
 
-pub no-room : (d : Device) (old new : List ℕ) (next : ℕ) → AnswerPut Midi d old next new → length old < 323 → (next ≡ 0) × (new ≡ old)
+pub no-room : (d : Device) (old new : List ℕ) (next : ℕ)
+    → AnswerPut Midi d old next new → length old < 323 → (next ≡ 0) × (new ≡ old)
 unfolding pageRoom pageAfter
 no-room d old new next a h = (a .0 ∙ rw (lt-ltb (length old) 323 h) refl, a .1 ∙ rw (lt-ltb (length old) 323 h) refl)

@@ -50,7 +50,8 @@ rest-of n = go (ltb n 384) refl
 negative : (a x n : ℕ) → n + suc (x / 8192) ≡ a + 384 → subℕ n 384 ≡ pos a +ℤ negsuc (x / 8192)
 negative a x n i = go (ltb a (suc (x / 8192))) refl
   where
-    go : (b : Bool) → ltb a (suc (x / 8192)) ≡ b → subℕ n 384 ≡ cond b (negsuc (suc (x / 8192) - suc a)) (pos (a - suc (x / 8192)))
+    go : (b : Bool) → ltb a (suc (x / 8192)) ≡ b
+        → subℕ n 384 ≡ cond b (negsuc (suc (x / 8192) - suc a)) (pos (a - suc (x / 8192)))
     go true e =
         let h = ltb-true a (suc (x / 8192)) e in
         let l : n < 384 = omega arith in
@@ -61,7 +62,8 @@ negative a x n i = go (ltb a (suc (x / 8192))) refl
         rw (le-ltb n 384 l) (ap pos (omega arith))
 
 -- a product that is not positive: x is its amount, no more than q for each unit of the bend
-negated : (a x q n : ℕ) → x ≤ q * 8192 → q ≤ 384 → n ≡ 384 + a - q + (q * 8192 - x) / 8192 → subℕ n 384 ≡ pos a +ℤ floorDiv (negℤ (pos x)) 8192
+negated : (a x q n : ℕ) → x ≤ q * 8192 → q ≤ 384 → n ≡ 384 + a - q + (q * 8192 - x) / 8192
+    → subℕ n 384 ≡ pos a +ℤ floorDiv (negℤ (pos x)) 8192
 negated a zero q n h l e = let k : 384 ≤ n = omega arith in rw (le-ltb n 384 k) (ap pos (omega arith))
 negated a (suc x) q n h l e = negative a x n (omega arith)
 
@@ -70,12 +72,15 @@ bent : (a q b : ℕ) → q ≤ 384 → subℕ (384 + a - q + q * b / 8192) 384 �
 bent a q b l = go (ltb b 8192) refl
   where
     go : (t : Bool) → ltb b 8192 ≡ t
-        → subℕ (384 + a - q + q * b / 8192) 384 ≡ pos a +ℤ floorDiv (pos q *ℤ cond t (negsuc (8192 - suc b)) (pos (b - 8192))) 8192
+        → subℕ (384 + a - q + q * b / 8192) 384
+        ≡ pos a +ℤ floorDiv (pos q *ℤ cond t (negsuc (8192 - suc b)) (pos (b - 8192))) 8192
     go true e =
         let h = ltb-true b 8192 e in
         let d : b + suc (8192 - suc b) ≡ 8192 = omega arith in
-        let m : q * b + q * suc (8192 - suc b) ≡ q * 8192 = sym (mul-add q b (suc (8192 - suc b))) ∙ ap (λ (z : ℕ). q * z) d in
-        let r : 384 + a - q + q * b / 8192 ≡ 384 + a - q + (q * 8192 - q * suc (8192 - suc b)) / 8192 = ap (λ (z : ℕ). 384 + a - q + z / 8192) (omega arith) in
+        let m : q * b + q * suc (8192 - suc b) ≡ q * 8192 =
+        sym (mul-add q b (suc (8192 - suc b))) ∙ ap (λ (z : ℕ). q * z) d in
+        let r : 384 + a - q + q * b / 8192 ≡ 384 + a - q + (q * 8192 - q * suc (8192 - suc b)) / 8192 =
+        ap (λ (z : ℕ). 384 + a - q + z / 8192) (omega arith) in
         negated a (q * suc (8192 - suc b)) q (384 + a - q + q * b / 8192) (omega arith) l r
     go false e =
         let h = ltb-false b 8192 e in

@@ -44,7 +44,9 @@ module _ (m k s b : ℕ) where
     where
       go : (x : Bool) → ltb s m ≡ x → pitchOf k (if x then s else m) b ≡ pitchOf k s b
       go true e = refl
-      go false e = let l = ltb-false s m e in sensitivity-refused k m b h ∙ sym (sensitivity-refused k s b (omega arith))
+      go false e =
+          let l = ltb-false s m e in
+          sensitivity-refused k m b h ∙ sym (sensitivity-refused k s b (omega arith))
 
   pub bend-cut : 16383 < m → pitchOf k s (atMost m b) ≡ pitchOf k s b
   bend-cut h = go (ltb b m) refl

@@ -35,7 +35,11 @@ unfolding lineAnswer
 reads = record {
   few = lit< tt;
   is = λ c. refl;
-  cut = λ k s b. rw (bend-cut 99999999 (kept k) (kept s) b (lit< tt), sensitivity-cut 99999999 (kept k) s b (lit< tt), key-cut 99999999 k s b (lit< tt));
+  cut = λ k s b. rw (
+    bend-cut 99999999 (kept k) (kept s) b (lit< tt),
+    sensitivity-cut 99999999 (kept k) s b (lit< tt),
+    key-cut 99999999 k s b (lit< tt),
+  );
 }
 
 abbrev toldBy : List ℕ → List (List ℕ) → List ℕ
@@ -43,7 +47,8 @@ toldBy f gs = told 2 by malformedLine 0 0 0 f gs
 
 -- a test that decides nothing
 all-three : (x y z : Bool) (a b : List ℕ)
-    → (if x && true then (if y && true then (if z && true then a else b) else b) else b) ≡ (if x && (y && z) then a else b)
+    → (if x && true then (if y && true then (if z && true then a else b) else b) else b)
+    ≡ (if x && (y && z) then a else b)
 all-three true true true a b = refl
 all-three true true false a b = refl
 all-three true false z a b = refl
@@ -57,7 +62,8 @@ fields-answer f (g ∷ h ∷ []) = all-three (isNumber f) (isNumber g) (isNumber
 fields-answer f (g ∷ h ∷ i ∷ gs) = rw (never (isNumber h), either (isNumber g)) (either (isNumber f) _)
 
 -- a line is answered by its fields: three numbers are a call, and any other line is malformed
-pub line-answered : (f : List ℕ) (gs : List (List ℕ)) → isField f ≡ true → areFields gs ≡ true → answers (f ++ behind gs) ≡ fieldsAnswer f gs
+pub line-answered : (f : List ℕ) (gs : List (List ℕ)) → isField f ≡ true
+    → areFields gs ≡ true → answers (f ++ behind gs) ≡ fieldsAnswer f gs
 line-answered f gs e es = sentences.line-told lineAnswer 2 by malformedLine reads f gs e es ∙ fields-answer f gs
 
 -- ---- a call
@@ -68,10 +74,12 @@ pub call-answered : (ks ss bs : List ℕ) → isNumber ks ≡ true → isNumber 
     → answers (ks ++ behind (ss ∷ bs ∷ [])) ≡ answerLine (pitchOf (spelled 0 ks) (spelled 0 ss) (spelled 0 bs))
 unfolding fieldsAnswer areFields
 call-answered ks ss bs e f g =
-    line-answered ks (ss ∷ bs ∷ []) (sentences.number-field false ks e) (rw (sentences.number-field false ss f, sentences.number-field false bs g)) ∙ rw (e, f, g)
+    line-answered ks (ss ∷ bs ∷ []) (sentences.number-field false ks e)
+    (rw (sentences.number-field false ss f, sentences.number-field false bs g)) ∙ rw (e, f, g)
 
 -- a call as a program writes it, of any three numbers up to twenty digits
-pub decimal-call : (k s b : ℕ) → k < 10 ^ 20 → s < 10 ^ 20 → b < 10 ^ 20 → answers (decimal k ++ behind (decimal s ∷ decimal b ∷ [])) ≡ answerLine (pitchOf k s b)
+pub decimal-call : (k s b : ℕ) → k < 10 ^ 20 → s < 10 ^ 20 → b < 10 ^ 20
+    → answers (decimal k ++ behind (decimal s ∷ decimal b ∷ [])) ≡ answerLine (pitchOf k s b)
 decimal-call k s b h i j =
     let x = written 19 k h in
     let y = written 19 s i in
@@ -98,9 +106,17 @@ ends-answer : (a : PitchAnswer) → lineEnds (answerLine a) ≡ 1
 unfolding count answerLine pitchFields
 ends-answer a =
     let p = pitchIn a in
-    rw (ends-parts (decimal (orZero (pitchNumber a))), ends-decimal 20 (orZero (pitchNumber a)), ends-parts, ends-parts, ends-signed (p .octave), ends-decimal 20 (p .entry))
+    rw (
+      ends-parts (decimal (orZero (pitchNumber a))),
+      ends-decimal 20 (orZero (pitchNumber a)),
+      ends-parts,
+      ends-parts,
+      ends-signed (p .octave),
+      ends-decimal 20 (p .entry),
+    )
 
-ends-line : (c : Line) (x : Bool) → lineEnds (if x then answerLine (pitchOf (c .first) (c .previous) (c .last)) else malformedLine) ≡ 1
+ends-line : (c : Line) (x : Bool)
+    → lineEnds (if x then answerLine (pitchOf (c .first) (c .previous) (c .last)) else malformedLine) ≡ 1
 unfolding count
 ends-line c true = ends-answer (pitchOf (c .first) (c .previous) (c .last))
 ends-line c false = refl
@@ -121,10 +137,12 @@ unfolding isField areFields fieldsAnswer
 two-numbers = line-answered (54 ∷ 48 ∷ []) ((50 ∷ []) ∷ []) refl refl
 
 -- `128,0,0` is answered `21,0,65536`, and `0,24,0`, the lowest of all, `0,-2,65536`
-pub refused-call : answers (49 ∷ 50 ∷ 56 ∷ 44 ∷ 48 ∷ 44 ∷ 48 ∷ 10 ∷ []) ≡ 50 ∷ 49 ∷ 44 ∷ 48 ∷ 44 ∷ 54 ∷ 53 ∷ 53 ∷ 51 ∷ 54 ∷ 10 ∷ []
+pub refused-call : answers (49 ∷ 50 ∷ 56 ∷ 44 ∷ 48 ∷ 44 ∷ 48 ∷ 10 ∷ [])
+    ≡ 50 ∷ 49 ∷ 44 ∷ 48 ∷ 44 ∷ 54 ∷ 53 ∷ 53 ∷ 51 ∷ 54 ∷ 10 ∷ []
 unfolding numberFrom spelled pitchOf answerLine pitchFields decimalWithin
 refused-call = call-answered (49 ∷ 50 ∷ 56 ∷ []) (48 ∷ []) (48 ∷ []) refl refl refl
 
-pub lowest-call : answers (48 ∷ 44 ∷ 50 ∷ 52 ∷ 44 ∷ 48 ∷ 10 ∷ []) ≡ 48 ∷ 44 ∷ 45 ∷ 50 ∷ 44 ∷ 54 ∷ 53 ∷ 53 ∷ 51 ∷ 54 ∷ 10 ∷ []
+pub lowest-call : answers (48 ∷ 44 ∷ 50 ∷ 52 ∷ 44 ∷ 48 ∷ 10 ∷ [])
+    ≡ 48 ∷ 44 ∷ 45 ∷ 50 ∷ 44 ∷ 54 ∷ 53 ∷ 53 ∷ 51 ∷ 54 ∷ 10 ∷ []
 unfolding numberFrom spelled pitchOf position pitchAt answerLine pitchFields decimalWithin
 lowest-call = call-answered (48 ∷ []) (50 ∷ 52 ∷ []) (48 ∷ []) refl refl refl ∙ rw (entry-at 0 (lit< tt))

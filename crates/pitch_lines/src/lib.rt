@@ -7,7 +7,8 @@ ghost use mathlib.Core.List.{_∷_};
 ghost use lib.ListN.{length, take};
 ghost use Rattle.text.specs.Text.{Put};
 ghost use Rattle.fields.specs.Line.{after, afterAll};
-ghost use Rattle.pitch_lines.specs.PitchLines.{Answers, signed, pitchFields, lineAnswer, answer, answersTo, endAnswer};
+ghost use Rattle.pitch_lines.specs.PitchLines.{Answers, signed, pitchFields};
+ghost use Rattle.pitch_lines.specs.PitchLines.{lineAnswer, answer, answersTo, endAnswer};
 use fields::Line;
 use fields::at_most;
 use pitch::Pitch;
@@ -66,7 +67,8 @@ fn put_answer(page: &mut [u8], at: usize, c: Line) -> usize
 
 // A byte of the input.
 fn one(c: Line, page: &mut [u8], used: &mut usize, b: u8) -> Line
-    ensures { λ r. ⌜ Answers (now (page .entry)) (now (used .entry)) (answer c b) (after c b) r (now (used .exit)) (now (page .exit)) ⌝ }
+    ensures { λ r. ⌜ Answers (now (page .entry)) (now (used .entry))
+        (answer c b) (after c b) r (now (used .exit)) (now (page .exit)) ⌝ }
 {
     if b == 10 {
         let at = *used;
@@ -79,8 +81,10 @@ fn one(c: Line, page: &mut [u8], used: &mut usize, b: u8) -> Line
 // The bytes of a read, answered from the page's start on. Where the page has 16 bytes for each of them, what stands
 // before `used` is what they are answered, whole.
 pub fn all(c: Line, page: &mut [u8], bytes: &[u8]) -> Answered
-    ensures { λ r. ⌜ Answers (now (page .entry)) 0 (answersTo c (now (bytes .entry))) (afterAll c (now (bytes .entry))) (r .line) (r .used) (now (page .exit)) ⌝ }
-    ensures { λ r. ⌜ (16 * length (now (bytes .entry)) ≤ length (now (page .entry)) → take (r .used) (now (page .exit)) ≡ answersTo c (now (bytes .entry))) ⌝ }
+    ensures { λ r. ⌜ Answers (now (page .entry)) 0 (answersTo c (now (bytes .entry)))
+        (afterAll c (now (bytes .entry))) (r .line) (r .used) (now (page .exit)) ⌝ }
+    ensures { λ r. ⌜ (16 * length (now (bytes .entry)) ≤ length (now (page .entry))
+        → take (r .used) (now (page .exit)) ≡ answersTo c (now (bytes .entry))) ⌝ }
 {
     let mut k = c;
     let mut used = 0;

@@ -16,7 +16,8 @@ use Rattle.splitter.specs.declared.Parser.{Parser}
 use Rattle.splitter.specs.declared.Completed.{Completed}
 use Rattle.splitter.specs.declared.Completed.the-variants as completed
 use Rattle.splitter.specs.declared.Split.{Split}
-use Rattle.splitter.specs.Split.{begun, stored, oneDataByte, atLast, completed, dataByte, opened, ended, statusByte, split, body}
+use Rattle.splitter.specs.Split.{begun, stored, oneDataByte, atLast, completed}
+use Rattle.splitter.specs.Split.{dataByte, opened, ended, statusByte, split, body}
 use Rattle.message.specs.declared.Message.{Message}
 use Rattle.message.specs.declared.Message.the-variants.{NoteOn, NoteOff, Control, Program, Bend, Other}
 use Rattle.message.specs.Message.{decode}
@@ -84,7 +85,9 @@ module _ (c : Channel) (r : InRange c) where
           «rpn_lsb» = up-to 127 (eqb n 98 || eqb n 99) _ _ (omega arith) (up-to 127 (eqb n 100) _ _ h (r .«rpn_lsb»));
           «bend_msb» = r .«bend_msb»;
           «bend_lsb» = r .«bend_lsb»;
-          sensitivity = up-to 24 (eqb n 6) _ _ (up-to 24 (eqb (c .«rpn_msb») 0 && eqb (c .«rpn_lsb») 0) _ _ (at-most-24 v) (r .sensitivity)) (r .sensitivity);
+          sensitivity = up-to 24 (eqb n 6) _ _
+              (up-to 24 (eqb (c .«rpn_msb») 0 && eqb (c .«rpn_lsb») 0) _ _ (at-most-24 v) (r .sensitivity))
+              (r .sensitivity);
         }
 
     controlled-in-range : InRange (controlled c n v)
@@ -109,7 +112,8 @@ fresh-kept p id = record { sixteen = refl; each = go 16 }
     go (suc n) zero = fresh-in-range
     go (suc n) (suc i) = go n i
 
-set-in-range : (l : List Channel) (i : ℕ) (x : Channel) → InRange x → ((j : ℕ) → InRange (getD l j fresh)) → (j : ℕ) → InRange (getD (set l i x) j fresh)
+set-in-range : (l : List Channel) (i : ℕ) (x : Channel) → InRange x
+    → ((j : ℕ) → InRange (getD l j fresh)) → (j : ℕ) → InRange (getD (set l i x) j fresh)
 set-in-range [] i x r h j = h j
 set-in-range (y ∷ l) zero x r h zero = r
 set-in-range (y ∷ l) zero x r h (suc j) = h (suc j)
@@ -123,7 +127,10 @@ module _ (i : Instrument) (k : Kept i) where
 
   with-channel-kept : (c : ℕ) (x : Channel) → InRange x → Kept (withChannel i c x)
   unfolding withChannel replaced
-  with-channel-kept c x r = record { sixteen = length-set (i .channels) (c - 1) x ∙ k .sixteen; each = set-in-range (i .channels) (c - 1) x r (k .each) }
+  with-channel-kept c x r = record {
+    sixteen = length-set (i .channels) (c - 1) x ∙ k .sixteen;
+    each = set-in-range (i .channels) (c - 1) x r (k .each);
+  }
 
 -- ---- a channel message whose data bytes are at most 127
 
@@ -174,7 +181,8 @@ exclusive-kept i k l = by-kind (kindOf (i .id) l)
 
 reported-kept : (i : Instrument) → Kept i → (g : ℕ) → KeptBy (reported i g)
 unfolding reported
-reported-kept i k g = by-both KeptBy (leb (i .polyphony) g) _ _ k (by-both KeptBy (isIdle (at (i .generators) g)) _ _ k k)
+reported-kept i k g =
+    by-both KeptBy (leb (i .polyphony) g) _ _ k (by-both KeptBy (isIdle (at (i .generators) g)) _ _ k k)
 
 -- ---- the parser, and what a byte completes
 
@@ -214,7 +222,8 @@ module _ (p : Parser) (k : Clean p) where
 
     completed-clean : CleanAfter (completed p b)
     unfolding completed
-    completed-clean = by-both CleanAfter (leb 0xF0 (p .status)) _ _ (begun-clean 0, tt) (begun-clean (p .status), (first, second))
+    completed-clean =
+        by-both CleanAfter (leb 0xF0 (p .status)) _ _ (begun-clean 0, tt) (begun-clean (p .status), (first, second))
       where
         first : (if oneDataByte (p .status) then b else getD (p .bytes) 0 0) ≤ 127
         first = by-both (λ (n : ℕ). n ≤ 127) (oneDataByte (p .status)) _ _ h k
@@ -224,11 +233,13 @@ module _ (p : Parser) (k : Clean p) where
 
     data-clean : CleanAfter (dataByte p b)
     unfolding dataByte
-    data-clean = by-both CleanAfter (ltb (p .status) 0x80) _ _ (k, tt) (by-both CleanAfter (atLast p) _ _ completed-clean (stored-clean, tt))
+    data-clean = by-both CleanAfter (ltb (p .status) 0x80) _ _ (k, tt)
+        (by-both CleanAfter (atLast p) _ _ completed-clean (stored-clean, tt))
 
   status-clean : (b : ℕ) → CleanAfter (statusByte p b)
   unfolding opened statusByte
-  status-clean b = by-both CleanAfter (leb 0xF8 b) _ _ (k, tt) (begun-clean (if ltb b 0xF4 then b else 0), ended-carried (p .status) b)
+  status-clean b = by-both CleanAfter (leb 0xF8 b) _ _ (k, tt)
+      (begun-clean (if ltb b 0xF4 then b else 0), ended-carried (p .status) b)
 
   split-clean : (b : ℕ) → CleanAfter (split p b)
   unfolding split
@@ -257,7 +268,10 @@ taken-whole : (d : Device) → Whole d → (e : Event) → Whole (taken d e .dev
 unfolding taken byteTaken reportTaken
 taken-whole d w (Byte b) =
     let s = split-clean (d .parser) (w .clean) b in
-    record { clean = s .0; kept = heard-kept (d .instrument) (w .kept) (d .parser) (split (d .parser) b .completed) (s .1) }
+    record {
+      clean = s .0;
+      kept = heard-kept (d .instrument) (w .kept) (d .parser) (split (d .parser) b .completed) (s .1);
+    }
 taken-whole d w (Report g) = record { clean = w .clean; kept = reported-kept (d .instrument) (w .kept) g }
 
 after-whole : (d : Device) → Whole d → (l : List Event) → Whole (after d l)
@@ -274,10 +288,14 @@ WholeAfter o = Whole (o .device)
 started-whole : (p id : ℕ) → Whole (started p id .device)
 unfolding started
 started-whole p id =
-    by-both WholeAfter (ltb p 1 || ltb 64 p) _ _ (fresh-whole 1 0) (by-both WholeAfter (ltb 126 id) _ _ (fresh-whole 1 0) (fresh-whole p id))
+    by-both WholeAfter (ltb p 1 || ltb 64 p) _ _ (fresh-whole 1 0)
+    (by-both WholeAfter (ltb 126 id) _ _ (fresh-whole 1 0) (fresh-whole p id))
 
 -- The claim: for every start, refused ones too, and every list of bytes and reports.
 pub always-in-range : AlwaysInRange
 always-in-range p id l =
     let w = after-whole (started p id .device) (started-whole p id) l in
-    record { sixteen = w .kept .sixteen; each = λ c lo hi. channel-in-range (after (started p id .device) l .instrument) (w .kept) c }
+    record {
+      sixteen = w .kept .sixteen;
+      each = λ c lo hi. channel-in-range (after (started p id .device) l .instrument) (w .kept) c;
+    }

@@ -40,14 +40,16 @@ pub bend-below-16384 : (c : Channel) → InRange c → (c .sensitivity < 25) × 
 bend-below-16384 c r = omega arith
 
 -- those that neither levels nor pitch ask for
-pub others-in-range : (c : Channel) → InRange c → (c .program ≤ 127) × (c .modulation ≤ 127) × (c .hold ≤ 127) × (c .«rpn_msb» ≤ 127) × (c .«rpn_lsb» ≤ 127)
+pub others-in-range : (c : Channel) → InRange c
+    → (c .program ≤ 127) × (c .modulation ≤ 127) × (c .hold ≤ 127) × (c .«rpn_msb» ≤ 127) × (c .«rpn_lsb» ≤ 127)
 others-in-range c r = (r .program, r .modulation, r .hold, r .«rpn_msb», r .«rpn_lsb»)
 
 pub last-channel-too : (d : Device) → AllInRange d → InRange (channelOf (d .instrument) 16)
 last-channel-too d a = a .each 16 (omega arith) (omega arith)
 
 -- no channel is missing from the record: whatever is read for a missing one, it is not read for these
-pub no-channel-missing : (d : Device) → AllInRange d → (i : ℕ) → i < 16 → (x y : Channel) → getD (d .instrument .channels) i x ≡ getD (d .instrument .channels) i y
+pub no-channel-missing : (d : Device) → AllInRange d → (i : ℕ) → i < 16 → (x y : Channel)
+    → getD (d .instrument .channels) i x ≡ getD (d .instrument .channels) i y
 no-channel-missing d a i h x y = any-default x y (d .instrument .channels) i (let s = a .sixteen in omega arith)
 
 -- any P and any own ID, refused or not
@@ -73,7 +75,8 @@ module _ (p id : ℕ) (l : List Event) (c : ℕ) (lo : 1 ≤ c) (hi : c ≤ 16) 
 abbrev pub loudest : List Event
 loudest =
     Byte 0xBF ∷ Byte 1 ∷ Byte 127 ∷ Byte 7 ∷ Byte 127 ∷ Byte 10 ∷ Byte 127 ∷ Byte 11 ∷ Byte 127 ∷ Byte 64 ∷ Byte 127
-    ∷ Byte 101 ∷ Byte 0 ∷ Byte 100 ∷ Byte 0 ∷ Byte 6 ∷ Byte 127 ∷ Byte 101 ∷ Byte 127 ∷ Byte 100 ∷ Byte 0xF8 ∷ Report 0 ∷ Byte 300 ∷ Byte 127
+    ∷ Byte 101 ∷ Byte 0 ∷ Byte 100 ∷ Byte 0 ∷ Byte 6 ∷ Byte 127 ∷ Byte 101
+    ∷ Byte 127 ∷ Byte 100 ∷ Byte 0xF8 ∷ Report 0 ∷ Byte 300 ∷ Byte 127
     ∷ Byte 0xCF ∷ Byte 127 ∷ Byte 0xEF ∷ Byte 127 ∷ Byte 127 ∷ []
 
 pub bounds-reached : channelOf (after (started 65 0 .device) loudest .instrument) 16
@@ -90,5 +93,7 @@ pub bounds-reached : channelOf (after (started 65 0 .device) loudest .instrument
       «bend_lsb» = 127;
       sensitivity = 24;
     }
-unfolding begun stored oneDataByte completed dataByte opened ended statusByte split decode of-channel.fresh of-controllers.dataEntry of-controllers.stored of-controllers.controlled silent fresh channelAt replaced channelOf withChannel notesAfter playControl played reported started heard byteTaken reportTaken taken after
+unfolding begun stored oneDataByte completed dataByte opened ended statusByte split decode of-channel.fresh
+    of-controllers.dataEntry of-controllers.stored of-controllers.controlled silent fresh channelAt replaced
+    channelOf withChannel notesAfter playControl played reported started heard byteTaken reportTaken taken after
 bounds-reached = refl

@@ -8,7 +8,8 @@ use Rattle.loops.specs.Passes.{upTo}
 use Rattle.generators.specs.declared.Generators.{Generators}
 use Rattle.generators.specs.Generators.{Generator, at, sustained, releasing, isHeld, isSustained, isOn, isBusyOn}
 use Rattle.releases.specs.declared.Change.{Change}
-use Rattle.releases.specs.declared.Change.the-variants.{ReleaseNote, ReleaseChannel, NoteOff, AllNotesOff, PedalUp}
+use Rattle.releases.specs.declared.Change.the-variants.{ReleaseNote, ReleaseChannel}
+use Rattle.releases.specs.declared.Change.the-variants.{NoteOff, AllNotesOff, PedalUp}
 
 -- which generators a change means: R5.2, a new note of their key; all of a channel, for which no rule asks yet; R6.2,
 -- their note-off; R6.12, all note-offs of their channel; R6.7, the pedal comes up

@@ -124,7 +124,8 @@ fn states_after(
     w: Selection,
     to: u8,
 ) -> [u8; 64]
-    ensures { λ r. ⌜ r ≡ upTo (λ g. if selects w (generator (getD state g 0) (getD channel g 0) (getD keys g 0)) then to else getD state g 0) 64 ⌝ }
+    ensures { λ r. ⌜ r ≡ upTo (λ g. if selects w (generator (getD state g 0) (getD channel g 0) (getD keys g 0))
+        then to else getD state g 0) 64 ⌝ }
 {
     let mut out = state;
     let mut i: usize = 0;

@@ -26,7 +26,8 @@ busyAt states channels c h = isBusyOn c (generator (getD states h 0) (getD chann
 
 -- the counts of the first g generators
 abbrev pub Counted : List ℕ → List ℕ → ℕ → List ℕ → Type 0
-Counted states channels g out = (length out ≡ 17) × ((c : ℕ) → c < 17 → getD out c 0 ≡ total (λ h. bit (busyAt states channels c h)) g)
+Counted states channels g out =
+    (length out ≡ 17) × ((c : ℕ) → c < 17 → getD out c 0 ≡ total (λ h. bit (busyAt states channels c h)) g)
 
 -- a count among 64 generators fits a byte
 pub fits-one : (n g : ℕ) → n ≤ g → g < 64 → n + 1 < 256
@@ -46,20 +47,24 @@ module _ (states channels : List ℕ) (g : ℕ) (out : List ℕ) (now : Counted 
   few c h = rw (now .1 c h) (total-bits (λ (i : ℕ). busyAt states channels c i) g)
 
   -- what the next generator adds to the count of channel d
-  adds : (d n : ℕ) → d < 17 → n ≡ bit (busyAt states channels d g) → getD out d 0 + n ≡ total (λ (i : ℕ). bit (busyAt states channels d i)) (g + 1)
+  adds : (d n : ℕ) → d < 17 → n ≡ bit (busyAt states channels d g)
+      → getD out d 0 + n ≡ total (λ (i : ℕ). bit (busyAt states channels d i)) (g + 1)
   adds d n h e = total-next (λ (i : ℕ). bit (busyAt states channels d i)) g (getD out d 0) n (now .1 d h) e
 
   module _ (c : ℕ) (on : getD channels g 0 ≡ c) where
-    here : (d : ℕ) (b : Bool) → isBusy (generator (getD states g 0) 0 0) ≡ b → eqb c d ≡ true → bit b ≡ bit (busyAt states channels d g)
+    here : (d : ℕ) (b : Bool) → isBusy (generator (getD states g 0) 0 0) ≡ b
+        → eqb c d ≡ true → bit b ≡ bit (busyAt states channels d g)
     here d true e t = rw (on, e, t) refl
     here d false e t = rw e refl
 
-    elsewhere : (d : ℕ) (b : Bool) → isBusy (generator (getD states g 0) 0 0) ≡ b → eqb c d ≡ false → 0 ≡ bit (busyAt states channels d g)
+    elsewhere : (d : ℕ) (b : Bool) → isBusy (generator (getD states g 0) 0 0) ≡ b
+        → eqb c d ≡ false → 0 ≡ bit (busyAt states channels d g)
     elsewhere d true e t = rw (on, e, t) refl
     elsewhere d false e t = rw e refl
 
     -- it is busy on a channel that is counted: the count of that channel is one more, and no other changes
-    pub counted-more : isBusy (generator (getD states g 0) 0 0) && ltb c 17 ≡ true → Counted states channels (g + 1) (set out c (getD out c 0 + 1))
+    pub counted-more : isBusy (generator (getD states g 0) 0 0) && ltb c 17 ≡ true
+        → Counted states channels (g + 1) (set out c (getD out c 0 + 1))
     counted-more t = (length-set out c _ ∙ now .0, λ d h. go d h (eqb c d) refl)
       where
         busy : isBusy (generator (getD states g 0) 0 0) ≡ true
@@ -68,23 +73,32 @@ module _ (states channels : List ℕ) (g : ℕ) (out : List ℕ) (now : Counted 
         small : c < 17
         small = counted-small (getD states g 0) c t
 
-        go : (d : ℕ) → d < 17 → (e : Bool) → eqb c d ≡ e → getD (set out c (getD out c 0 + 1)) d 0 ≡ total (λ (i : ℕ). bit (busyAt states channels d i)) (g + 1)
+        go : (d : ℕ) → d < 17 → (e : Bool) → eqb c d ≡ e
+            → getD (set out c (getD out c 0 + 1)) d 0 ≡ total (λ (i : ℕ). bit (busyAt states channels d i)) (g + 1)
         go d h true e =
             let q = eqb-true c d e in
-            rw (← q, getD-set-same out c (getD out c 0 + 1) 0 (rw (now .0) small)) (adds c 1 small (here c true busy (eq-eqb c c refl)))
+            rw (← q, getD-set-same out c (getD out c 0 + 1) 0 (rw (now .0) small))
+            (adds c 1 small (here c true busy (eq-eqb c c refl)))
         go d h false e =
-            rw (getD-set-other out c d (getD out c 0 + 1) 0 (λ q. eqb-false c d e (sym q))) (sym (add-zero (getD out d 0)) ∙ adds d 0 h (elsewhere d true busy e))
+            rw (getD-set-other out c d (getD out c 0 + 1) 0 (λ q. eqb-false c d e (sym q)))
+            (sym (add-zero (getD out d 0)) ∙ adds d 0 h (elsewhere d true busy e))
 
     -- it is not: no count changes
-    pub counted-same : isBusy (generator (getD states g 0) 0 0) && ltb c 17 ≡ false → Counted states channels (g + 1) out
-    counted-same t = (now .0, λ d h. sym (add-zero (getD out d 0)) ∙ adds d 0 h (go d h (isBusy (generator (getD states g 0) 0 0)) refl t))
+    pub counted-same : isBusy (generator (getD states g 0) 0 0) && ltb c 17 ≡ false
+        → Counted states channels (g + 1) out
+    counted-same t = (
+      now .0,
+      λ d h. sym (add-zero (getD out d 0)) ∙ adds d 0 h (go d h (isBusy (generator (getD states g 0) 0 0)) refl t),
+    )
       where
-        go : (d : ℕ) → d < 17 → (b : Bool) → isBusy (generator (getD states g 0) 0 0) ≡ b → b && ltb c 17 ≡ false → 0 ≡ bit (busyAt states channels d g)
+        go : (d : ℕ) → d < 17 → (b : Bool) → isBusy (generator (getD states g 0) 0 0) ≡ b
+            → b && ltb c 17 ≡ false → 0 ≡ bit (busyAt states channels d g)
         go d h true e f =
             let large = ltb-false c 17 f in
             elsewhere d true e (ne-eqb c d (λ q. absurd (omega arith)))
         go d h false e f = rw e refl
 
-pub counted-all : (s : Generators) (g : ℕ) (out : List ℕ) → g ≡ 64 → Counted (s .state) (s .channel) g out → out ≡ upTo (busyCount s) 17
+pub counted-all : (s : Generators) (g : ℕ) (out : List ℕ) → g ≡ 64
+    → Counted (s .state) (s .channel) g out → out ≡ upTo (busyCount s) 17
 unfolding busyCount
 counted-all s g out e now = sym (upTo-list (busyCount s) 0 out 17 (now .0) (λ c h. sym (rw e at (now .1 c h))))

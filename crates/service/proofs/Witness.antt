@@ -14,7 +14,8 @@ use Rattle.table.specs.Table.{entry}
 use Rattle.shares.specs.Shares.{sharesFrom, lookup}
 use Rattle.device.specs.declared.Device.{Device}
 use Rattle.service.specs.declared.PageAnswer.the-variants.{Written, TooShort}
-use Rattle.service.specs.Page.{inTwo, inThree, standingFrom, head, line, row, rowsTo, pageOf, pageText, pageAfter, pageAnswer, pageNumber}
+use Rattle.service.specs.Page.{inTwo, inThree, standingFrom, head, line, row, rowsTo}
+use Rattle.service.specs.Page.{pageOf, pageText, pageAfter, pageAnswer, pageNumber}
 use Rattle.service.proofs.Lines.{page-length}
 
 abbrev four : List Entry
@@ -25,7 +26,8 @@ abbrev cut : ℕ → ℕ → ℕ → ℕ → List ℕ
 cut a w c notes = take w (drop a (row four 24 (λ d. notes) c))
 
 -- channel 10 with 7 notes: `10  2  12  10 -  7`
-pub whole-line : row four 24 (λ d. 7) 10 ≡ 49 ∷ 48 ∷ 32 ∷ 32 ∷ 50 ∷ 32 ∷ 32 ∷ 49 ∷ 50 ∷ 32 ∷ 32 ∷ 49 ∷ 48 ∷ 32 ∷ 45 ∷ 32 ∷ 32 ∷ 55 ∷ 10 ∷ []
+pub whole-line : row four 24 (λ d. 7) 10
+    ≡ 49 ∷ 48 ∷ 32 ∷ 32 ∷ 50 ∷ 32 ∷ 32 ∷ 49 ∷ 50 ∷ 32 ∷ 32 ∷ 49 ∷ 48 ∷ 32 ∷ 45 ∷ 32 ∷ 32 ∷ 55 ∷ 10 ∷ []
 unfolding inTwo inThree standingFrom sharesFrom lookup line row
 whole-line = refl
 
@@ -63,7 +65,8 @@ unfolding inTwo inThree standingFrom sharesFrom lookup line row
 all-notes = refl
 
 -- the last line is that of channel 16
-pub last-line : drop 304 (pageOf four 24 (λ c. c)) ≡ 49 ∷ 54 ∷ 32 ∷ 32 ∷ 52 ∷ 32 ∷ 49 ∷ 48 ∷ 48 ∷ 32 ∷ 45 ∷ 45 ∷ 45 ∷ 32 ∷ 77 ∷ 32 ∷ 49 ∷ 54 ∷ 10 ∷ []
+pub last-line : drop 304 (pageOf four 24 (λ c. c))
+    ≡ 49 ∷ 54 ∷ 32 ∷ 32 ∷ 52 ∷ 32 ∷ 49 ∷ 48 ∷ 48 ∷ 32 ∷ 45 ∷ 45 ∷ 45 ∷ 32 ∷ 77 ∷ 32 ∷ 49 ∷ 54 ∷ 10 ∷ []
 unfolding inTwo inThree standingFrom sharesFrom lookup head line row rowsTo pageOf
 last-line = refl
 
@@ -75,7 +78,8 @@ last-channel = refl
 -- ---- the buffer
 
 -- R15.7: the bytes behind the page stay
-behind-a-page : (d : Device) (old : List ℕ) → length (pageText d) ≡ 323 → 323 ≤ length old → drop 323 (pageAfter d old) ≡ drop 323 old
+behind-a-page : (d : Device) (old : List ℕ) → length (pageText d) ≡ 323
+    → 323 ≤ length old → drop 323 (pageAfter d old) ≡ drop 323 old
 unfolding pageAfter
 behind-a-page d old n h = rw (le-ltb (length old) 323 h) (drop-at (pageText d) (drop 323 old) 323 n)
 

@@ -11,7 +11,8 @@ ghost use Rattle.loops.specs.Passes.{upTo};
 ghost use Rattle.table.specs.Table.{entriesOf};
 ghost use Rattle.generators.specs.Generators.{generator, isBusy};
 ghost use Rattle.candidates.specs.Candidates.{busyCount};
-ghost use Rattle.service.specs.Page.{inTwo, inThree, standingFrom, placeField, valueField, shareField, mark, row, rowsTo, pageAfter, pageAnswer};
+ghost use Rattle.service.specs.Page.{inTwo, inThree, standingFrom, placeField, valueField};
+ghost use Rattle.service.specs.Page.{shareField, mark, row, rowsTo, pageAfter, pageAnswer};
 use device::Device;
 use generators::Generators;
 use shares::Share;
@@ -188,7 +189,8 @@ fn put(page: &mut [u8], at: usize, line: [u8; 19])
 // The lines of the sixteen channels, behind the head.
 fn put_rows(page: &mut [u8], t: Table, p: u8, busy: [u8; 17])
     requires { ⌜ 323 ≤ length (now page) ⌝ }
-    ensures { λ r. ⌜ now (page .exit) ≡ take 19 (now (page .entry)) ++ rowsTo (entriesOf t) p (λ c. getD busy c 0) 16 ++ drop 323 (now (page .entry)) ⌝ }
+    ensures { λ r. ⌜ now (page .exit) ≡ take 19 (now (page .entry))
+        ++ rowsTo (entriesOf t) p (λ c. getD busy c 0) 16 ++ drop 323 (now (page .entry)) ⌝ }
 {
     let mut n: usize = 0;
     while n < 16 {

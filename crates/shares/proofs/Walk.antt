@@ -22,29 +22,36 @@ module _ (p c v : ℕ) (x : Entry) (l : List Entry) where
   share-first t = go (leb (x .value) p) t
     where
       go : (b : Bool) → b && eqb c (x .channel) ≡ true
-          → lookup c (if b then entry (x .channel) (x .value - v) ∷ sharesFrom p (x .value) l else sharesFrom p (x .value) l) ≡ Units (x .value - v)
+          → lookup c (if b then entry (x .channel) (x .value - v) ∷ sharesFrom p (x .value) l
+          else sharesFrom p (x .value) l) ≡ Units (x .value - v)
       go true t = rw t
       go false t = impossible (cc)
 
-  share-past : leb (x .value) p && eqb c (x .channel) ≡ false → lookup c (sharesFrom p v (x ∷ l)) ≡ lookup c (sharesFrom p (x .value) l)
+  share-past : leb (x .value) p && eqb c (x .channel) ≡ false
+      → lookup c (sharesFrom p v (x ∷ l)) ≡ lookup c (sharesFrom p (x .value) l)
   unfolding lookup sharesFrom
   share-past t = go (leb (x .value) p) t
     where
       go : (b : Bool) → b && eqb c (x .channel) ≡ false
-          → lookup c (if b then entry (x .channel) (x .value - v) ∷ sharesFrom p (x .value) l else sharesFrom p (x .value) l) ≡ lookup c (sharesFrom p (x .value) l)
+          → lookup c
+          (if b then entry (x .channel) (x .value - v) ∷ sharesFrom p (x .value) l else sharesFrom p (x .value) l)
+          ≡ lookup c (sharesFrom p (x .value) l)
       go true t = rw t
       go false t = refl
 
 module _ (l : List Entry) (n i : ℕ) where
   -- the entry at i is the channel's and unmasked, with v before it; it is not; there is none left
   pub share-here : (p c v : ℕ) (r : Share) → i < n → n ≤ length l → lookup c (sharesFrom p v (drop i (take n l))) ≡ r
-      → leb (getD l i (entry 0 0) .value) p && eqb c (getD l i (entry 0 0) .channel) ≡ true → Units (getD l i (entry 0 0) .value - v) ≡ r
-  share-here p c v r h k e t = sym (share-first p c v (getD l i (entry 0 0)) (drop (i + 1) (take n l)) t) ∙ (rw (rest-next l n i h k) at e)
+      → leb (getD l i (entry 0 0) .value) p && eqb c (getD l i (entry 0 0) .channel) ≡ true
+      → Units (getD l i (entry 0 0) .value - v) ≡ r
+  share-here p c v r h k e t =
+      sym (share-first p c v (getD l i (entry 0 0)) (drop (i + 1) (take n l)) t) ∙ (rw (rest-next l n i h k) at e)
 
   pub share-next : (p c v : ℕ) (r : Share) → i < n → n ≤ length l → lookup c (sharesFrom p v (drop i (take n l))) ≡ r
       → leb (getD l i (entry 0 0) .value) p && eqb c (getD l i (entry 0 0) .channel) ≡ false
       → lookup c (sharesFrom p (getD l i (entry 0 0) .value) (drop (i + 1) (take n l))) ≡ r
-  share-next p c v r h k e t = sym (share-past p c v (getD l i (entry 0 0)) (drop (i + 1) (take n l)) t) ∙ (rw (rest-next l n i h k) at e)
+  share-next p c v r h k e t =
+      sym (share-past p c v (getD l i (entry 0 0)) (drop (i + 1) (take n l)) t) ∙ (rw (rest-next l n i h k) at e)
 
   pub share-end : (p c v : ℕ) (r : Share) → n ≤ i → lookup c (sharesFrom p v (drop i (take n l))) ≡ r → Masked ≡ r
   unfolding lookup sharesFrom

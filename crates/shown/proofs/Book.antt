@@ -17,7 +17,8 @@ use Rattle.note_book.proofs.Bytes.{lawful, fine-begin}
 use Rattle.shown.specs.Shown.{ShowsTheBook}
 
 -- what demand 3 keeps of the device and the book
-pub matched : (p id : ℕ) (l : List Event) → Matches (after Live (begin p id) l .device .instrument) (after Live (begin p id) l .book)
+pub matched : (p id : ℕ) (l : List Event)
+    → Matches (after Live (begin p id) l .device .instrument) (after Live (begin p id) l .book)
 matched p id l = fine-after Live lawful (begin p id) (fine-begin p id) l .matches
 
 pub shows-the-book : ShowsTheBook
@@ -26,4 +27,9 @@ shows-the-book p id l =
     let m = matched p id l in
     let b = after Live (begin p id) l .book in
     let s = after Live (begin p id) l .device .instrument .generators in
-    rw (m .table, m .polyphony, rows-same (b .table) (b .polyphony) (busyCount s) (λ c. notesOn (b .polyphony) c (b .notes)) 16 (λ c h. count-notes (b .polyphony) (b .notes) s (m .playable) (m .notes) c)) refl
+    rw (
+      m .table,
+      m .polyphony,
+      rows-same (b .table) (b .polyphony) (busyCount s) (λ c. notesOn (b .polyphony) c (b .notes)) 16
+          (λ c h. count-notes (b .polyphony) (b .notes) s (m .playable) (m .notes) c),
+    ) refl

@@ -14,7 +14,8 @@ use Rattle.shares.specs.declared.Share.{Share}
 use Rattle.shares.specs.declared.Share.the-variants.{Masked, Units}
 use Rattle.service.specs.declared.Standing.{Standing}
 use Rattle.service.specs.declared.Standing.the-variants.{Listed, Unlisted}
-use Rattle.service.specs.Page.{inTwo, inThree, placeField, valueField, shareField, mark, head, line, row, rowsTo, pageOf}
+use Rattle.service.specs.Page.{inTwo, inThree, placeField, valueField}
+use Rattle.service.specs.Page.{shareField, mark, head, line, row, rowsTo, pageOf}
 use Rattle.service.proofs.Lines.{row-length, rows-length}
 use Rattle.shown.specs.Shown.{lineAt}
 
@@ -36,12 +37,16 @@ module _ (t : List Entry) (p : ℕ) (busy : ℕ → ℕ) where
           let i = ltb-true k n e in
           let r = rows in
           let d = length-drop (19 * k) (rowsTo t p busy n) in
-          rw (drop-append-le (19 * k) (rowsTo t p busy n) (row t p busy (suc n)) (omega arith), take-append-le 19 (drop (19 * k) (rowsTo t p busy n)) (row t p busy (suc n)) (omega arith)) (ih i)
+          rw (
+            drop-append-le (19 * k) (rowsTo t p busy n) (row t p busy (suc n)) (omega arith),
+            take-append-le 19 (drop (19 * k) (rowsTo t p busy n)) (row t p busy (suc n)) (omega arith),
+          ) (ih i)
       go false e ih =
           let i = ltb-false k n e in
           let q : k ≡ n = omega arith in
           let l = last in
-          rw (q, drop-at (rowsTo t p busy n) (row t p busy (suc n)) (19 * n) rows) (take-all 19 (row t p busy (suc n)) (omega arith))
+          rw (q, drop-at (rowsTo t p busy n) (row t p busy (suc n)) (19 * n) rows)
+          (take-all 19 (row t p busy (suc n)) (omega arith))
 
   -- line 0 is the head, line c that of channel c
   pub head-at : lineAt 0 (pageOf t p busy) ≡ head
@@ -53,7 +58,8 @@ module _ (t : List Entry) (p : ℕ) (busy : ℕ → ℕ) where
   line-at zero lo hi = absurd (omega arith)
   line-at (suc k) lo hi =
       let e : 19 * suc k ≡ 19 + 19 * k = omega arith in
-      rw e (ap (λ (l : List ℕ). take 19 l) (drop-append-add head (rowsTo t p busy 16) (19 * k)) ∙ row-at 16 k (omega arith))
+      rw e
+      (ap (λ (l : List ℕ). take 19 l) (drop-append-add head (rowsTo t p busy 16) (19 * k)) ∙ row-at 16 k (omega arith))
 
 -- the fields of a line
 module _ (c : ℕ) (at : Standing) (s : Share) (busy : ℕ) where

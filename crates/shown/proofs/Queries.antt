@@ -38,7 +38,8 @@ mark-told (Units n) = refl
 
 -- ---- generators
 
-module _ (d : Device) (above : (g : ℕ) → d .instrument .polyphony ≤ g → isIdle (at (d .instrument .generators) g) ≡ true) where
+module _ (d : Device)
+    (above : (g : ℕ) → d .instrument .polyphony ≤ g → isIdle (at (d .instrument .generators) g) ≡ true) where
   abbrev gen : ℕ → Generator
   gen g = at (d .instrument .generators) g
 
@@ -55,7 +56,8 @@ module _ (d : Device) (above : (g : ℕ) → d .instrument .polyphony ≤ g → 
   unfolding generatorQuery
   told-busy-on c g = go (leb (d .instrument .polyphony) g) refl
     where
-      go : (b : Bool) → leb (d .instrument .polyphony) g ≡ b → isBusyTold (generatorQuery d g) && isOnTold c (generatorQuery d g) ≡ isBusyOn c (gen g)
+      go : (b : Bool) → leb (d .instrument .polyphony) g ≡ b
+          → isBusyTold (generatorQuery d g) && isOnTold c (generatorQuery d g) ≡ isBusyOn c (gen g)
       go true e = rw (e, idle-busy (gen g) (above g (leb-true _ _ e))) refl
       go false e = rw e refl
 
@@ -69,20 +71,24 @@ module _ (d : Device) (above : (g : ℕ) → d .instrument .polyphony ≤ g → 
     pub told-count : (c : ℕ) → busyTold d c ≡ busyCount (d .instrument .generators) c
     unfolding busyCount
     told-count c =
-        total-same (λ (g : ℕ). bit (isBusyTold (generatorQuery d g) && isOnTold c (generatorQuery d g))) (λ (g : ℕ). bit (isBusyOn c (gen g))) 256 (λ g h. ap bit (told-busy-on c g))
+        total-same (λ (g : ℕ). bit (isBusyTold (generatorQuery d g) && isOnTold c (generatorQuery d g)))
+        (λ (g : ℕ). bit (isBusyOn c (gen g))) 256 (λ g h. ap bit (told-busy-on c g))
         ∙ total-cut (λ (g : ℕ). bit (isBusyOn c (gen g))) 64 256 (omega arith) (λ g h. none-on c g (omega arith))
 
     pub agrees : (c : ℕ) → 1 ≤ c → c ≤ 16 → Agrees d c
     unfolding pageText row maskQuery shareQuery shareOf
     agrees c lo hi =
         let is : isChannel c ≡ true = rw (le-leb 1 c lo, le-leb c 16 hi) refl in
-        let l = line-at (entriesOf (d .instrument .table)) (d .instrument .polyphony) (busyCount (d .instrument .generators)) c lo hi in
+        let l = line-at (entriesOf (d .instrument .table))
+        (d .instrument .polyphony) (busyCount (d .instrument .generators)) c lo hi in
         record {
           channel = rw l (cut-channel c _ _ _);
           place = rw l (cut-place c _ _ _);
           value = rw l (cut-value c _ _ _);
-          share = rw (l, is) (cut-share c _ _ _ ∙ share-told (shareOf (d .instrument .table) (d .instrument .polyphony) c));
-          mark = rw (l, is) (cut-mark c _ _ _ ∙ mark-told (shareOf (d .instrument .table) (d .instrument .polyphony) c));
+          share =
+              rw (l, is) (cut-share c _ _ _ ∙ share-told (shareOf (d .instrument .table) (d .instrument .polyphony) c));
+          mark =
+              rw (l, is) (cut-mark c _ _ _ ∙ mark-told (shareOf (d .instrument .table) (d .instrument .polyphony) c));
           notes = rw (l, told-count c) (cut-notes c _ _ _);
         }
 
@@ -90,4 +96,5 @@ pub agrees-with-queries : AgreesWithQueries
 agrees-with-queries p id l c lo hi =
     let m = matched p id l in
     let few = m .playable .few in
-    agrees (after Live (begin p id) l .device) (λ g h. m .playable .above g (rw (m .polyphony) at h)) (rw (m .polyphony) few) c lo hi
+    agrees (after Live (begin p id) l .device)
+    (λ g h. m .playable .above g (rw (m .polyphony) at h)) (rw (m .polyphony) few) c lo hi

@@ -48,7 +48,8 @@ module _ (c : ℕ) where
   one-among zero lo hi = absurd (omega arith)
   one-among (suc n) lo hi = go (leb c n) refl (one-among n lo)
     where
-      go : (b : Bool) → leb c n ≡ b → (c ≤ n → total (λ i. bit (eqb c (i + 1))) n ≡ 1) → total (λ i. bit (eqb c (i + 1))) n + bit (eqb c (n + 1)) ≡ 1
+      go : (b : Bool) → leb c n ≡ b → (c ≤ n → total (λ i. bit (eqb c (i + 1))) n ≡ 1)
+          → total (λ i. bit (eqb c (i + 1))) n + bit (eqb c (n + 1)) ≡ 1
       go true e ih =
           let h = leb-true c n e in
           rw (ih h, ne-eqb c (n + 1) (λ q. absurd (omega arith))) refl
@@ -64,7 +65,8 @@ unfolding listed
 in-range c [] h e = impossible (cc)
 in-range c (x ∷ l) h e = go (eqb c (x .channel)) refl e (in-range c l (h .1))
   where
-    go : (b : Bool) → eqb c (x .channel) ≡ b → b || listed c l ≡ true → (listed c l ≡ true → (1 ≤ c) × (c ≤ 16)) → (1 ≤ c) × (c ≤ 16)
+    go : (b : Bool) → eqb c (x .channel) ≡ b → b || listed c l ≡ true
+        → (listed c l ≡ true → (1 ≤ c) × (c ≤ 16)) → (1 ≤ c) × (c ≤ 16)
     go true q e ih = rw (eqb-true c (x .channel) q) (h .0)
     go false q e ih = ih e
 
@@ -72,16 +74,19 @@ in-range c (x ∷ l) h e = go (eqb c (x .channel)) refl e (in-range c l (h .1))
 busy-listed : (q : List Entry) (x : Generator) → IsListed q (slotOf x) → isBusy x ≡ true → listed (x .channel) q ≡ true
 busy-listed q x h e = go (isHeld x) refl (isSustained x) refl h e
   where
-    go : (a : Bool) → isHeld x ≡ a → (b : Bool) → isSustained x ≡ b → IsListed q (slotOf x) → a || b ≡ true → listed (x .channel) q ≡ true
+    go : (a : Bool) → isHeld x ≡ a → (b : Bool) → isSustained x ≡ b
+        → IsListed q (slotOf x) → a || b ≡ true → listed (x .channel) q ≡ true
     go true p b r h e = rw p at h
     go false p true r h e = rw (p, r) at h
     go false p false r h e = impossible (cc)
 
 -- a generator is counted once among the sixteen if it is busy, else never
-once : (x : Generator) → (isBusy x ≡ true → (1 ≤ x .channel) × (x .channel ≤ 16)) → total (λ i. bit (isBusyOn (i + 1) x)) 16 ≡ bit (isBusy x)
+once : (x : Generator) → (isBusy x ≡ true → (1 ≤ x .channel) × (x .channel ≤ 16))
+    → total (λ i. bit (isBusyOn (i + 1) x)) 16 ≡ bit (isBusy x)
 once x h = go (isBusy x) h
   where
-    go : (b : Bool) → (b ≡ true → (1 ≤ x .channel) × (x .channel ≤ 16)) → total (λ i. bit (b && eqb (x .channel) (i + 1))) 16 ≡ bit b
+    go : (b : Bool) → (b ≡ true → (1 ≤ x .channel) × (x .channel ≤ 16))
+        → total (λ i. bit (b && eqb (x .channel) (i + 1))) 16 ≡ bit b
     go true h = one-among (x .channel) 16 (h refl .0) (h refl .1)
     go false h = total-zero 16
 
@@ -103,13 +108,21 @@ notes-add-up p id l =
     let d = after Live (begin p id) l .device in
     let s = d .instrument .generators in
     let b = after Live (begin p id) l .book in
-    let above : (g : ℕ) → d .instrument .polyphony ≤ g → isIdle (at s g) ≡ true = λ g h. m .playable .above g (rw (m .polyphony) at h) in
+    let above : (g : ℕ) → d .instrument .polyphony ≤ g → isIdle (at s g) ≡ true =
+    λ g h. m .playable .above g (rw (m .polyphony) at h) in
     let few : d .instrument .polyphony ≤ 64 = rw (m .polyphony) (m .playable .few) in
-    let small : (c : ℕ) → busyTold d c ≤ 64 = λ c. rw (told-count d above few c) (total-bits (λ (g : ℕ). isBusyOn c (at s g)) 64) in
-    total-same (λ (i : ℕ). readTwo (field 16 2 (i + 1) d)) (λ (i : ℕ). busyTold d (i + 1)) 16 (λ i h. rw (agrees-with-queries p id l (i + 1) (omega arith) (omega arith) .notes) (read-two (busyTold d (i + 1)) (let k = small (i + 1) in omega arith)))
-    ∙ total-same (λ (i : ℕ). busyTold d (i + 1)) (λ (i : ℕ). busyCount s (i + 1)) 16 (λ i h. told-count d above few (i + 1))
+    let small : (c : ℕ) → busyTold d c ≤ 64 =
+    λ c. rw (told-count d above few c) (total-bits (λ (g : ℕ). isBusyOn c (at s g)) 64) in
+    total-same (λ (i : ℕ). readTwo (field 16 2 (i + 1) d)) (λ (i : ℕ). busyTold d (i + 1)) 16
+    (λ i h. rw (agrees-with-queries p id l (i + 1) (omega arith) (omega arith) .notes)
+    (read-two (busyTold d (i + 1)) (let k = small (i + 1) in omega arith)))
+    ∙ total-same (λ (i : ℕ). busyTold d (i + 1))
+    (λ (i : ℕ). busyCount s (i + 1)) 16 (λ i h. told-count d above few (i + 1))
     ∙ swapped (λ (i g : ℕ). bit (isBusyOn (i + 1) (at s g))) 16 64
     ∙ total-same (λ (g : ℕ). total (λ i. bit (isBusyOn (i + 1) (at s g))) 16) (λ (g : ℕ). bit (isBusy (at s g))) 64
-    (λ g h. once (at s g) (λ e. in-range (at s g .channel) (quota b) (shares-channels (b .polyphony) 0 (b .table) (m .well-formed .channels)) (busy-listed (quota b) (at s g) (rw (m .notes g) at (m .unmasked g)) e)))
+    (λ g h. once (at s g) (λ e.
+    in-range (at s g .channel) (quota b) (shares-channels (b .polyphony) 0 (b .table) (m .well-formed .channels))
+    (busy-listed (quota b) (at s g) (rw (m .notes g) at (m .unmasked g)) e)))
     ∙ sym (total-cut (λ (g : ℕ). bit (isBusy (at s g))) 64 256 (omega arith) (λ g h. none-busy d above g (omega arith)))
-    ∙ sym (total-same (λ (g : ℕ). bit (isBusyTold (generatorQuery d g))) (λ (g : ℕ). bit (isBusy (at s g))) 256 (λ g h. ap bit (told-busy d above g)))
+    ∙ sym (total-same (λ (g : ℕ). bit (isBusyTold (generatorQuery d g)))
+    (λ (g : ℕ). bit (isBusy (at s g))) 256 (λ g h. ap bit (told-busy d above g)))

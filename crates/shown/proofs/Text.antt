@@ -25,7 +25,8 @@ use Rattle.device.specs.declared.Device.{Device}
 use Rattle.log.specs.Log.{decimal}
 use Rattle.service.specs.declared.Standing.{Standing}
 use Rattle.service.specs.declared.Standing.the-variants.{Listed, Unlisted}
-use Rattle.service.specs.Page.{inTwo, inThree, standingFrom, placeField, valueField, shareField, mark, head, line, row, pageText}
+use Rattle.service.specs.Page.{inTwo, inThree, standingFrom, placeField, valueField}
+use Rattle.service.specs.Page.{shareField, mark, head, line, row, pageText}
 use Rattle.service.proofs.Lines.{page-length}
 use Rattle.shown.specs.Shown.{lineAt, Characters, IsLine, Bytes, OfBytes, SeventeenLines, right, RightAligned}
 use Rattle.shown.proofs.Fields.{head-at, line-at}
@@ -41,7 +42,10 @@ right-aligned n = (λ h. two (ltb n 10) refl h, λ h. three (ltb n 10) refl (ltb
     two false e h = rw (e, lt-ltb n 100 h) refl
 
     three : (a : Bool) → ltb n 10 ≡ a → (b : Bool) → ltb n 100 ≡ b → n < 1000 → inThree n ≡ right 3 (decimal n)
-    three true e b f h = let s = ltb-true n 10 e in let r : n % 10 ≡ n = omega arith in rw (e, lt-ltb n 100 (omega arith), r) refl
+    three true e b f h =
+        let s = ltb-true n 10 e in
+        let r : n % 10 ≡ n = omega arith in
+        rw (e, lt-ltb n 100 (omega arith), r) refl
     three false e true f h = let s = ltb-true n 100 f in let r : n / 10 % 10 ≡ n / 10 = omega arith in rw (e, f, r) refl
     three false e false f h = rw (e, f) refl
 
@@ -59,7 +63,8 @@ three-characters : (n : ℕ) → n < 256 → Characters (inThree n)
 unfolding inThree
 three-characters n h = go (ltb n 100) (ltb n 10)
   where
-    go : (a b : Bool) → Characters ((if a then 32 else 48 + n / 100) ∷ (if b then 32 else 48 + n / 10 % 10) ∷ (48 + n % 10) ∷ [])
+    go : (a b : Bool)
+        → Characters ((if a then 32 else 48 + n / 100) ∷ (if b then 32 else 48 + n / 10 % 10) ∷ (48 + n % 10) ∷ [])
     go true true = ((omega arith, omega arith), ((omega arith, omega arith), ((omega arith, omega arith), tt)))
     go true false = ((omega arith, omega arith), ((omega arith, omega arith), ((omega arith, omega arith), tt)))
     go false true = ((omega arith, omega arith), ((omega arith, omega arith), ((omega arith, omega arith), tt)))
@@ -88,7 +93,8 @@ unfolding standingFrom
 standing-fits k c [] h b = tt
 standing-fits k c (e ∷ l) h b = go (eqb c (e .channel)) (standing-fits (k + 1) c l (omega arith) (b .1))
   where
-    go : (t : Bool) → Fits (standingFrom (k + 1) c l) → Fits (if t then Listed k (e .value) else standingFrom (k + 1) c l)
+    go : (t : Bool) → Fits (standingFrom (k + 1) c l)
+        → Fits (if t then Listed k (e .value) else standingFrom (k + 1) c l)
     go true ih = (omega arith, b .0)
     go false ih = ih
 
@@ -101,7 +107,8 @@ share-fits p c v (e ∷ l) b = go (leb (e .value) p) (eqb c (e .channel)) refl (
     small = let k : e .value < 256 = b .0 in omega arith
 
     go : (t u : Bool) → eqb c (e .channel) ≡ u → ShareFits (lookup c (sharesFrom p (e .value) l))
-        → ShareFits (lookup c (if t then entry (e .channel) (e .value - v) ∷ sharesFrom p (e .value) l else sharesFrom p (e .value) l))
+        → ShareFits (lookup c
+        (if t then entry (e .channel) (e .value - v) ∷ sharesFrom p (e .value) l else sharesFrom p (e .value) l))
     go true true q ih = rw q small
     go true false q ih = rw q ih
     go false u q ih = ih
@@ -112,7 +119,8 @@ place-characters Unlisted h = ((omega arith, omega arith), ((omega arith, omega 
 
 value-characters : (at : Standing) → Fits at → Characters (valueField at)
 value-characters (Listed k v) h = three-characters v (h .1)
-value-characters Unlisted h = ((omega arith, omega arith), ((omega arith, omega arith), ((omega arith, omega arith), tt)))
+value-characters Unlisted h =
+    ((omega arith, omega arith), ((omega arith, omega arith), ((omega arith, omega arith), tt)))
 
 share-characters : (s : Share) → ShareFits s → Characters (shareField s)
 share-characters Masked h = ((omega arith, omega arith), ((omega arith, omega arith), ((omega arith, omega arith), tt)))
@@ -132,7 +140,9 @@ module _ (c : ℕ) (at : Standing) (s : Share) (busy : ℕ) where
   unfolding inTwo inThree
   text-length = go at s
     where
-      go : (x : Standing) (y : Share) → length (inTwo c ++ 32 ∷ placeField x ++ 32 ∷ valueField x ++ 32 ∷ shareField y ++ 32 ∷ mark y ∷ 32 ∷ inTwo busy) ≡ 18
+      go : (x : Standing) (y : Share)
+          → length (inTwo c ++ 32 ∷ placeField x ++ 32 ∷ valueField x
+          ++ 32 ∷ shareField y ++ 32 ∷ mark y ∷ 32 ∷ inTwo busy) ≡ 18
       go (Listed k v) Masked = refl
       go (Listed k v) (Units n) = refl
       go Unlisted Masked = refl
@@ -140,15 +150,21 @@ module _ (c : ℕ) (at : Standing) (s : Share) (busy : ℕ) where
 
   text-characters : c < 100 → Fits at → ShareFits s → busy < 100 → Characters text
   text-characters hc ha hs hb =
-      let a = both (inTwo c) (32 ∷ placeField at) (two-characters c hc) (blank (placeField at) (place-characters at ha)) in
-      let b = both (inTwo c ++ 32 ∷ placeField at) (32 ∷ valueField at) a (blank (valueField at) (value-characters at ha)) in
-      let d = both (inTwo c ++ 32 ∷ placeField at ++ 32 ∷ valueField at) (32 ∷ shareField s) b (blank (shareField s) (share-characters s hs)) in
-      let rest : Characters (mark s ∷ 32 ∷ inTwo busy) = (mark-character s, blank (inTwo busy) (two-characters busy hb)) in
-      both (inTwo c ++ 32 ∷ placeField at ++ 32 ∷ valueField at ++ 32 ∷ shareField s) (32 ∷ mark s ∷ 32 ∷ inTwo busy) d (blank (mark s ∷ 32 ∷ inTwo busy) rest)
+      let a = both (inTwo c) (32 ∷ placeField at) (two-characters c hc)
+      (blank (placeField at) (place-characters at ha)) in
+      let b = both (inTwo c ++ 32 ∷ placeField at) (32 ∷ valueField at) a
+      (blank (valueField at) (value-characters at ha)) in
+      let d = both (inTwo c ++ 32 ∷ placeField at ++ 32 ∷ valueField at)
+      (32 ∷ shareField s) b (blank (shareField s) (share-characters s hs)) in
+      let rest : Characters (mark s ∷ 32 ∷ inTwo busy) =
+      (mark-character s, blank (inTwo busy) (two-characters busy hb)) in
+      both (inTwo c ++ 32 ∷ placeField at ++ 32 ∷ valueField at ++ 32 ∷ shareField s)
+      (32 ∷ mark s ∷ 32 ∷ inTwo busy) d (blank (mark s ∷ 32 ∷ inTwo busy) rest)
 
   line-is : c < 100 → Fits at → ShareFits s → busy < 100 → IsLine (line c at s busy)
   unfolding line
-  line-is hc ha hs hb = record { text = text; ended = refl; characters = text-characters hc ha hs hb; eighteen = text-length }
+  line-is hc ha hs hb =
+      record { text = text; ended = refl; characters = text-characters hc ha hs hb; eighteen = text-length }
 
 -- characters that are written down are characters by their look
 seen : List ℕ → Bool
@@ -159,13 +175,16 @@ are-seen : (l : List ℕ) → seen l ≡ true → Characters l
 unfolding seen
 are-seen [] h = tt
 are-seen (x ∷ l) h =
-    let both = and-left (leb 32 x && leb x 126) (seen l) h in
-    ((leb-true 32 x (and-left _ (leb x 126) both), leb-true x 126 (and-right (leb 32 x) _ both)), are-seen l (and-right (leb 32 x && leb x 126) (seen l) h))
+    let both = and-left (leb 32 x && leb x 126) (seen l) h in (
+      (leb-true 32 x (and-left _ (leb x 126) both), leb-true x 126 (and-right (leb 32 x) _ both)),
+      are-seen l (and-right (leb 32 x && leb x 126) (seen l) h),
+    )
 
 head-is : IsLine head
 unfolding head seen
 head-is =
-    let letters : List ℕ = 67 ∷ 72 ∷ 32 ∷ 80 ∷ 82 ∷ 32 ∷ 86 ∷ 65 ∷ 76 ∷ 32 ∷ 83 ∷ 72 ∷ 82 ∷ 32 ∷ 77 ∷ 32 ∷ 78 ∷ 84 ∷ [] in
+    let letters : List ℕ =
+    67 ∷ 72 ∷ 32 ∷ 80 ∷ 82 ∷ 32 ∷ 86 ∷ 65 ∷ 76 ∷ 32 ∷ 83 ∷ 72 ∷ 82 ∷ 32 ∷ 77 ∷ 32 ∷ 78 ∷ 84 ∷ [] in
     record { text = letters; ended = refl; characters = are-seen letters refl; eighteen = refl }
 
 -- ---- the page
@@ -190,7 +209,8 @@ module _ (d : Device) (o : OfBytes (d .instrument .table)) where
   busy = busyCount (d .instrument .generators)
 
   short : length t ≤ 16
-  short = rw (length-at-most 16 (d .instrument .table .count) (d .instrument .table .entries) (o .sixteen)) (at-most-le 16 (d .instrument .table .count))
+  short = rw (length-at-most 16 (d .instrument .table .count) (d .instrument .table .entries) (o .sixteen))
+      (at-most-le 16 (d .instrument .table .count))
 
   row-is : (c : ℕ) → c ≤ 16 → IsLine (row t p busy c)
   unfolding row
@@ -198,7 +218,8 @@ module _ (d : Device) (o : OfBytes (d .instrument .table)) where
       let s = short in
       let few = few-busy (d .instrument .generators) c in
       let b = bytes-taken (d .instrument .table .count) (d .instrument .table .entries) (o .values) in
-      line-is c (standingFrom 1 c t) (lookup c (sharesFrom p 0 t)) (busy c) (omega arith) (standing-fits 1 c t (omega arith) b) (share-fits p c 0 t b) (omega arith)
+      line-is c (standingFrom 1 c t) (lookup c (sharesFrom p 0 t)) (busy c) (omega arith)
+      (standing-fits 1 c t (omega arith) b) (share-fits p c 0 t b) (omega arith)
 
   line-of-text : (n : ℕ) → n < 17 → IsLine (lineAt n (pageText d))
   unfolding pageText

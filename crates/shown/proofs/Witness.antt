@@ -42,20 +42,26 @@ use Rattle.queries.specs.declared.MaskAnswer.the-variants.{IsMasked, IsUnmasked
 use Rattle.queries.specs.declared.ShareAnswer.the-variants.{ShareIs}
 use Rattle.queries.specs.Queries.{generatorQuery, maskQuery, shareQuery}
 use Rattle.log.specs.Log.{decimal}
-use Rattle.service.specs.Page.{inTwo, inThree, standingFrom, placeField, valueField, head, line, row, rowsTo, pageOf, pageText}
+use Rattle.service.specs.Page.{inTwo, inThree, standingFrom, placeField, valueField}
+use Rattle.service.specs.Page.{head, line, row, rowsTo, pageOf, pageText}
 use Rattle.note_book.specs.Book.{notesOn}
 use Rattle.note_book.specs.Claim.{after, Live, begin}
-use Rattle.shown.specs.Shown.{ShowsTheBook, isBusyTold, isOnTold, readTwo, lineAt, field, Agrees, AgreesWithQueries, NotesAddUp, Characters, IsLine, Bytes, OfBytes, SeventeenLines, RightAligned}
+use Rattle.shown.specs.Shown.{ShowsTheBook, isBusyTold, isOnTold, readTwo, lineAt}
+use Rattle.shown.specs.Shown.{field, Agrees, AgreesWithQueries, NotesAddUp, Characters}
+use Rattle.shown.specs.Shown.{IsLine, Bytes, OfBytes, SeventeenLines, RightAligned}
 
 -- ---- the words
 
 -- any P and own ID, refused or not, and any list: the book's table, P and notes
 pub any-list : ShowsTheBook → (p id : ℕ) (l : List Event)
-    → let b = after Live (begin p id) l .book in pageText (after Live (begin p id) l .device) ≡ pageOf (b .table) (b .polyphony) (λ c. notesOn (b .polyphony) c (b .notes))
+    → let b = after Live (begin p id) l .book in
+    pageText (after Live (begin p id) l .device)
+    ≡ pageOf (b .table) (b .polyphony) (λ c. notesOn (b .polyphony) c (b .notes))
 any-list a = a
 
 -- the first channel and the last
-pub both-ends : AgreesWithQueries → (p id : ℕ) (l : List Event) → Agrees (after Live (begin p id) l .device) 1 × Agrees (after Live (begin p id) l .device) 16
+pub both-ends : AgreesWithQueries → (p id : ℕ) (l : List Event)
+    → Agrees (after Live (begin p id) l .device) 1 × Agrees (after Live (begin p id) l .device) 16
 both-ends a p id l = (a p id l 1 (omega arith) (omega arith), a p id l 16 (omega arith) (omega arith))
 
 module _ (d : Device) (c : ℕ) (a : Agrees d c) where
@@ -71,15 +77,18 @@ module _ (d : Device) (c : ℕ) (a : Agrees d c) where
   pub mask-shown : maskQuery d c ≡ IsMasked → (field 14 1 c d ≡ 77 ∷ []) × (field 10 3 c d ≡ 45 ∷ 45 ∷ 45 ∷ [])
   mask-shown m = (a .mark ∙ rw m refl, a .share ∙ rw m refl)
 
-  pub share-shown : (n : ℕ) → maskQuery d c ≡ IsUnmasked → shareQuery d c ≡ ShareIs n → (field 14 1 c d ≡ 45 ∷ []) × (field 10 3 c d ≡ inThree n)
+  pub share-shown : (n : ℕ) → maskQuery d c ≡ IsUnmasked → shareQuery d c ≡ ShareIs n
+      → (field 14 1 c d ≡ 45 ∷ []) × (field 10 3 c d ≡ inThree n)
   share-shown n m s = (a .mark ∙ rw m refl, a .share ∙ rw (m, s) refl)
 
-  pub notes-shown : field 16 2 c d ≡ inTwo (total (λ g. bit (isBusyTold (generatorQuery d g) && isOnTold c (generatorQuery d g))) 256)
+  pub notes-shown : field 16 2 c d
+      ≡ inTwo (total (λ g. bit (isBusyTold (generatorQuery d g) && isOnTold c (generatorQuery d g))) 256)
   notes-shown = a .notes
 
 -- all sixteen channels, of all generators that one may ask for
 pub sum-of-sixteen : NotesAddUp → (p id : ℕ) (l : List Event)
-    → let d = after Live (begin p id) l .device in total (λ i. readTwo (field 16 2 (i + 1) d)) 16 ≡ total (λ g. bit (isBusyTold (generatorQuery d g))) 256
+    → let d = after Live (begin p id) l .device in
+    total (λ i. readTwo (field 16 2 (i + 1) d)) 16 ≡ total (λ g. bit (isBusyTold (generatorQuery d g))) 256
 sum-of-sixteen a = a
 
 -- a line's end is no character
@@ -149,8 +158,10 @@ seven a = a 7 .1 (omega arith)
 -- which 60 goes up; a drum; on channel 3 a key that goes up
 abbrev song : List Event
 song =
-    Byte 0xF0 ∷ Byte 0x7F ∷ Byte 0x7F ∷ Byte 0x0B ∷ Byte 0x01 ∷ Byte 0 ∷ Byte 2 ∷ Byte 9 ∷ Byte 12 ∷ Byte 2 ∷ Byte 12 ∷ Byte 15 ∷ Byte 100 ∷ Byte 0xF7
-    ∷ Byte 0xB0 ∷ Byte 64 ∷ Byte 127 ∷ Byte 0x90 ∷ Byte 60 ∷ Byte 64 ∷ Byte 62 ∷ Byte 64 ∷ Byte 60 ∷ Byte 0 ∷ Byte 0x99 ∷ Byte 36 ∷ Byte 64
+    Byte 0xF0 ∷ Byte 0x7F ∷ Byte 0x7F ∷ Byte 0x0B ∷ Byte 0x01 ∷ Byte 0 ∷ Byte 2
+    ∷ Byte 9 ∷ Byte 12 ∷ Byte 2 ∷ Byte 12 ∷ Byte 15 ∷ Byte 100 ∷ Byte 0xF7
+    ∷ Byte 0xB0 ∷ Byte 64 ∷ Byte 127 ∷ Byte 0x90 ∷ Byte 60 ∷ Byte 64
+    ∷ Byte 62 ∷ Byte 64 ∷ Byte 60 ∷ Byte 0 ∷ Byte 0x99 ∷ Byte 36 ∷ Byte 64
     ∷ Byte 0x92 ∷ Byte 48 ∷ Byte 64 ∷ Byte 48 ∷ Byte 0 ∷ []
 
 -- held and sustained notes count, the releasing one of channel 3 does not; channel 16 is listed and masked; the others
@@ -190,5 +201,11 @@ pub worked-page : pageText (after Live (begin 24 0) song .device) ≡
     ∷ 49 ∷ 53 ∷ 32 ∷ 45 ∷ 45 ∷ 32 ∷ 45 ∷ 45 ∷ 45 ∷ 32 ∷ 45 ∷ 45 ∷ 45 ∷ 32 ∷ 77 ∷ 32 ∷ 32 ∷ 48 ∷ 10
     -- 16  4 100 --- M  0
     ∷ 49 ∷ 54 ∷ 32 ∷ 32 ∷ 52 ∷ 32 ∷ 49 ∷ 48 ∷ 48 ∷ 32 ∷ 45 ∷ 45 ∷ 45 ∷ 32 ∷ 77 ∷ 32 ∷ 32 ∷ 48 ∷ 10 ∷ []
-unfolding upTo total filterBy firstOf padded begun stored oneDataByte completed dataByte opened ended statusByte split decode tableOf startTable listed sharesFrom lookup shareOf isMip isSystemOn kindOf pairs faulty judged groupOf excludes of-channel.fresh of-controllers.dataEntry of-controllers.stored of-controllers.controlled agesOf newest assigned silent changes stateAfter changed isAmong leaves silenced lowestIdle wanted oldest busyCount overShare stealFrom victim cleared choice noteOn fresh channelAt replaced channelOf withChannel isRhythm masked notesAfter playControl playNoteOff playNoteOn played started newTable mipTaken exclusive heard byteTaken taken reportTaken reported after inTwo inThree standingFrom head line row rowsTo pageOf pageText
+unfolding upTo total filterBy firstOf padded begun stored oneDataByte completed dataByte opened ended statusByte
+    split decode tableOf startTable listed sharesFrom lookup shareOf isMip isSystemOn kindOf pairs faulty judged
+    groupOf excludes of-channel.fresh of-controllers.dataEntry of-controllers.stored of-controllers.controlled
+    agesOf newest assigned silent changes stateAfter changed isAmong leaves silenced lowestIdle wanted oldest
+    busyCount overShare stealFrom victim cleared choice noteOn fresh channelAt replaced channelOf withChannel
+    isRhythm masked notesAfter playControl playNoteOff playNoteOn played started newTable mipTaken exclusive heard
+    byteTaken taken reportTaken reported after inTwo inThree standingFrom head line row rowsTo pageOf pageText
 worked-page = refl

@@ -20,7 +20,8 @@ use Rattle.generators.specs.Generators.{generator, at}
 use Rattle.silence.specs.Silence.{leaves, goes, silenced}
 
 -- beyond the generators nothing leaves
-pub none-leaves : (l : Leaving) (state channel keys : List ℕ) → length state ≡ 64 → (g : ℕ) → 64 ≤ g → leaves l g (generator (getD state g 0) (getD channel g 0) (getD keys g 0)) ≡ false
+pub none-leaves : (l : Leaving) (state channel keys : List ℕ) → length state ≡ 64 → (g : ℕ)
+    → 64 ≤ g → leaves l g (generator (getD state g 0) (getD channel g 0) (getD keys g 0)) ≡ false
 unfolding leaves
 none-leaves l state channel keys h g k = rw (List·getD-eq-default state 0 {n = g} (omega arith))
 
@@ -31,7 +32,8 @@ module _ (l : Leaving) (s : Generators) (h : length (s .state) ≡ 64) where
   marked : (g : ℕ) → unmarked marks g ≡ not (goes l s g)
   marked = no-mark (goes l s) 64 (none-leaves l (s .state) (s .channel) (s .key) h) (omega arith)
 
-  left : (f : ℕ → ℕ) → upTo (λ g. if eqb (getD marks g 0) 0 then f g else 0) 64 ≡ upTo (λ g. if goes l s g then 0 else f g) 64
+  left : (f : ℕ → ℕ)
+      → upTo (λ g. if eqb (getD marks g 0) 0 then f g else 0) 64 ≡ upTo (λ g. if goes l s g then 0 else f g) 64
   left f = upTo-same _ _ 64 (λ g k. rw (marked g) (turn (goes l s g) (f g)))
     where
       turn : (b : Bool) (n : ℕ) → (if not b then n else 0) ≡ (if b then 0 else n)
@@ -47,4 +49,9 @@ module _ (l : Leaving) (s : Generators) (h : length (s .state) ≡ 64) where
       ≡ silenced l s
   unfolding silenced without
   silence-of =
-      rw (left (λ (g : ℕ). at s g .state), left (λ (g : ℕ). at s g .channel), left (λ (g : ℕ). at s g .key), filter-same (unmarked marks) (λ (g : ℕ). not (goes l s g)) (oldestFirst (s .ages)) marked)
+      rw (
+        left (λ (g : ℕ). at s g .state),
+        left (λ (g : ℕ). at s g .channel),
+        left (λ (g : ℕ). at s g .key),
+        filter-same (unmarked marks) (λ (g : ℕ). not (goes l s g)) (oldestFirst (s .ages)) marked,
+      )

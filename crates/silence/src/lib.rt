@@ -34,7 +34,8 @@ fn leaves(leaving: Leaving, g: u8, state: u8, channel: u8, key: u8) -> bool
 
 // A mark for each generator that becomes idle.
 fn marks(state: [u8; 64], channel: [u8; 64], keys: [u8; 64], leaving: Leaving) -> [u8; 256]
-    ensures { λ r. ⌜ r ≡ marksOf (λ g. leaves leaving g (generator (getD state g 0) (getD channel g 0) (getD keys g 0))) ⌝ }
+    ensures { λ r. ⌜ r ≡ marksOf (λ g. leaves leaving g
+        (generator (getD state g 0) (getD channel g 0) (getD keys g 0))) ⌝ }
 {
     let mut out = [0u8; 256];
     let mut i: usize = 0;

@@ -43,7 +43,8 @@ short n old e = ltb-false 65536 n (or-left (ltb 65536 n) (ltb (length old) n) e)
 pub room : (n : ℕ) (old : List ℕ) → isTooLong n (length old) ≡ false → n ≤ length old
 room n old e = ltb-false (length old) n (or-right (ltb 65536 n) (ltb (length old) n) e)
 
-pub turn-first : (p n : ℕ) (old : List ℕ) (o : Output) → isWrongP p ≡ false → isTooLong n (length old) ≡ false → o ≡ started p 0 → Turn p n old old (o .device) 0 0
+pub turn-first : (p n : ℕ) (old : List ℕ) (o : Output) → isWrongP p ≡ false
+    → isTooLong n (length old) ≡ false → o ≡ started p 0 → Turn p n old old (o .device) 0 0
 unfolding upTo afterBytes thefts
 turn-first p n old o r f e =
     record {
@@ -63,16 +64,19 @@ song-next : (i : ℕ) → song (i + 1) ≡ song i ++ (songByte i ∷ [])
 unfolding upTo
 song-next i = rw (add-one i)
 
-pub turn-next : (p n : ℕ) (old new : List ℕ) (d : Device) (t i : ℕ) → Turn p n old new d t i → i < n → (b : ℕ) → b ≡ songByte i → (o : Output) → o ≡ byteTaken d b → (x : ℕ) → x ≡ bit (isTheft (o .answer))
+pub turn-next : (p n : ℕ) (old new : List ℕ) (d : Device) (t i : ℕ) → Turn p n old new d t i → i < n
+    → (b : ℕ) → b ≡ songByte i → (o : Output) → o ≡ byteTaken d b → (x : ℕ) → x ≡ bit (isTheft (o .answer))
     → Turn p n old (set new i b) (o .device) (t + x) (i + 1)
 turn-next p n old new d t i k h b e o q x y =
     let r = k .room in
     let l = k .less in
     let one = bit-le (isTheft (o .answer)) in
-    let byte : o ≡ byteTaken (afterBytes (started p 0 .device) (song i)) (songByte i) = q ∙ ap₂ byteTaken (k .device) e in
+    let byte : o ≡ byteTaken (afterBytes (started p 0 .device) (song i)) (songByte i) =
+    q ∙ ap₂ byteTaken (k .device) e in
     let c = k .counted in
     let s = thefts-snoc (started p 0 .device) (song i) (songByte i) in
-    let z : x ≡ bit (isTheft (byteTaken (afterBytes (started p 0 .device) (song i)) (songByte i) .answer)) = y ∙ ap (λ (u : Output). bit (isTheft (u .answer))) byte in
+    let z : x ≡ bit (isTheft (byteTaken (afterBytes (started p 0 .device) (song i)) (songByte i) .answer)) =
+    y ∙ ap (λ (u : Output). bit (isTheft (u .answer))) byte in
     record {
       right = k .right;
       fits = k .fits;
@@ -81,14 +85,18 @@ turn-next p n old new d t i k h b e o q x y =
       until = omega arith;
       same = length-set new i b ∙ k .same;
       written = fill-next songByte 0 old new i b (omega arith) (k .written) e;
-      device = ap (λ (u : Output). u .device) byte ∙ sym (after-snoc (started p 0 .device) (song i) (songByte i)) ∙ ap (afterBytes (started p 0 .device)) (sym (song-next i));
+      device = ap (λ (u : Output). u .device) byte ∙ sym (after-snoc (started p 0 .device) (song i) (songByte i))
+          ∙ ap (afterBytes (started p 0 .device)) (sym (song-next i));
       counted = subst (λ (m : List ℕ). t + x ≡ thefts (started p 0 .device) m) (sym (song-next i)) (omega arith);
       less = omega arith;
     }
 
-pub turn-last : (p n : ℕ) (old new : List ℕ) (d : Device) (t i : ℕ) → Turn p n old new d t i → n ≤ i → (Thefts t ≡ songAnswer p n old) × (new ≡ songWritten p n old)
+pub turn-last : (p n : ℕ) (old new : List ℕ) (d : Device) (t i : ℕ) → Turn p n old new d t i
+    → n ≤ i → (Thefts t ≡ songAnswer p n old) × (new ≡ songWritten p n old)
 unfolding songAnswer songWritten
 turn-last p n old new d t i k h =
     let u = k .until in
-    let e : i ≡ n = omega arith in
-    (rw (k .right, k .fits) (ap Thefts (k .counted ∙ ap (λ (m : ℕ). thefts (started p 0 .device) (song m)) e)), rw (k .right, k .fits) (k .written ∙ ap (λ (m : ℕ). song m ++ drop m old) e))
+    let e : i ≡ n = omega arith in (
+      rw (k .right, k .fits) (ap Thefts (k .counted ∙ ap (λ (m : ℕ). thefts (started p 0 .device) (song m)) e)),
+      rw (k .right, k .fits) (k .written ∙ ap (λ (m : ℕ). song m ++ drop m old) e),
+    )

@@ -76,7 +76,8 @@ fn is_too_long(n: usize, room: usize) -> bool
 // Writes the song of n bytes into the buffer's first n bytes, plays each of them on a fresh device of this polyphony,
 // and answers the thefts that the device told.
 pub fn write_song(polyphony: u8, n: usize, song: &mut [u8]) -> SongAnswer
-    ensures { λ r. ⌜ (r ≡ songAnswer polyphony n (now (song .entry))) × (now (song .exit) ≡ songWritten polyphony n (now (song .entry))) ⌝ }
+    ensures { λ r. ⌜ (r ≡ songAnswer polyphony n (now (song .entry)))
+        × (now (song .exit) ≡ songWritten polyphony n (now (song .entry))) ⌝ }
 {
     if is_wrong_polyphony(polyphony) {
         return SongAnswer::WrongPolyphony;

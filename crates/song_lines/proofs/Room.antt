@@ -24,7 +24,8 @@ answer-length WrongPolyphony h = omega arith
 answer-length TooLong h = omega arith
 
 -- so it stands in a page of 16 bytes whole
-pub stands-whole : (a : SongAnswer) → theftsIn a < 4294967296 → (used : ℕ) {p q : List ℕ} → Put p 0 (answerLine a) used q → 16 ≤ length p → take used q ≡ answerLine a
+pub stands-whole : (a : SongAnswer) → theftsIn a < 4294967296 → (used : ℕ) {p q : List ℕ}
+    → Put p 0 (answerLine a) used q → 16 ≤ length p → take used q ≡ answerLine a
 stands-whole a t used {p} {q} put h =
     let l = answer-length a t in
     let w = whole {p = p} {q = q} {t = answerLine a} {at = 0} {k = used} (omega arith) put in

@@ -20,7 +20,8 @@ use Rattle.song.specs.declared.SongAnswer.{SongAnswer}
 use Rattle.song.specs.Song.{songAnswer, songNumber, theftsIn}
 use Rattle.song_lines.specs.declared.Request.{Request}
 use Rattle.song_lines.specs.declared.Request.the-variants.{Nothing, Malformed, Song}
-use Rattle.song_lines.specs.SongLines.{isRequest, lineRequest, request, endRequest, answerLine, answerTo, withSong, songTo, answers, songs, fieldsRequest}
+use Rattle.song_lines.specs.SongLines.{isRequest, lineRequest, request, endRequest, answerLine}
+use Rattle.song_lines.specs.SongLines.{answerTo, withSong, songTo, answers, songs, fieldsRequest}
 use Rattle.song_lines.proofs.Refused.{p-cut, n-cut}
 
 -- ---- for whatever a request gets
@@ -34,18 +35,26 @@ record Gets (gets : Request → List ℕ) : Type 0 where
 module _ (gets : Request → List ℕ) (g : Gets gets) where
   reads : Reads (λ c. gets (lineRequest c)) 1 (λ k p n. gets (Song p n)) (gets Malformed)
   unfolding lineRequest
-  reads = record { few = lit< tt; is = λ c. go (isRequest c) (c .previous) (c .last); cut = λ k p n. rw (g .p 99999999 p (kept n) (lit< tt), g .n 99999999 p n (lit< tt)) }
+  reads = record {
+    few = lit< tt;
+    is = λ c. go (isRequest c) (c .previous) (c .last);
+    cut = λ k p n. rw (g .p 99999999 p (kept n) (lit< tt), g .n 99999999 p n (lit< tt));
+  }
     where
-      go : (x : Bool) (p n : ℕ) → gets (if x then Song (atMost 255 p) n else Malformed) ≡ (if x then gets (Song p n) else gets Malformed)
+      go : (x : Bool) (p n : ℕ)
+          → gets (if x then Song (atMost 255 p) n else Malformed) ≡ (if x then gets (Song p n) else gets Malformed)
       go true p n = g .p 255 p n (lit< tt)
       go false p n = refl
 
-  two : (x y : Bool) (p n : ℕ) → (if x && true then (if y && true then gets (Song p n) else gets Malformed) else gets Malformed) ≡ gets (if x && y then Song p n else Malformed)
+  two : (x y : Bool) (p n : ℕ)
+      → (if x && true then (if y && true then gets (Song p n) else gets Malformed) else gets Malformed)
+      ≡ gets (if x && y then Song p n else Malformed)
   two true true p n = refl
   two true false p n = refl
   two false y p n = refl
 
-  fields-get : (f : List ℕ) (gs : List (List ℕ)) → told 1 (λ k p n. gets (Song p n)) (gets Malformed) 0 0 0 f gs ≡ gets (fieldsRequest f gs)
+  fields-get : (f : List ℕ) (gs : List (List ℕ))
+      → told 1 (λ k p n. gets (Song p n)) (gets Malformed) 0 0 0 f gs ≡ gets (fieldsRequest f gs)
   unfolding told fieldsRequest
   fields-get f [] = never (isNumber f) _ _
   fields-get f (h ∷ []) = two (isNumber f) (isNumber h) _ _
@@ -53,13 +62,17 @@ module _ (gets : Request → List ℕ) (g : Gets gets) where
   fields-get f (h ∷ i ∷ j ∷ gs) = rw (never (isNumber i), either (isNumber h)) (either (isNumber f) _)
 
   -- a line gets what its fields ask for
-  line-gets : (f : List ℕ) (gs : List (List ℕ)) → isField f ≡ true → areFields gs ≡ true → allAnswersBy (λ c. gets (lineRequest c)) (f ++ behind gs) ≡ gets (fieldsRequest f gs)
-  line-gets f gs e es = sentences.line-told (λ c. gets (lineRequest c)) 1 (λ k p n. gets (Song p n)) (gets Malformed) reads f gs e es ∙ fields-get f gs
+  line-gets : (f : List ℕ) (gs : List (List ℕ)) → isField f ≡ true → areFields gs ≡ true
+      → allAnswersBy (λ c. gets (lineRequest c)) (f ++ behind gs) ≡ gets (fieldsRequest f gs)
+  line-gets f gs e es = sentences.line-told (λ c. gets (lineRequest c)) 1
+      (λ k p n. gets (Song p n)) (gets Malformed) reads f gs e es ∙ fields-get f gs
 
   -- two numbers, of any length and with any leading zeros: also where one is larger than those that are kept
-  two-get : (ps ns : List ℕ) → isNumber ps ≡ true → isNumber ns ≡ true → allAnswersBy (λ c. gets (lineRequest c)) (ps ++ behind (ns ∷ [])) ≡ gets (Song (spelled 0 ps) (spelled 0 ns))
+  two-get : (ps ns : List ℕ) → isNumber ps ≡ true → isNumber ns ≡ true
+      → allAnswersBy (λ c. gets (lineRequest c)) (ps ++ behind (ns ∷ [])) ≡ gets (Song (spelled 0 ps) (spelled 0 ns))
   unfolding fieldsRequest areFields
-  two-get ps ns e f = line-gets ps (ns ∷ []) (sentences.number-field false ps e) (rw (sentences.number-field false ns f)) ∙ rw (e, f)
+  two-get ps ns e f =
+      line-gets ps (ns ∷ []) (sentences.number-field false ps e) (rw (sentences.number-field false ns f)) ∙ rw (e, f)
 
   -- what an input gets is what its bytes ask for, and its end
   byte-gets : (c : Line) (b : ℕ) → answerBy (λ k. gets (lineRequest k)) c b ≡ gets (request c b)
@@ -96,19 +109,23 @@ module _ (page : List ℕ) where
   }
 
   -- a line is answered by its fields: two numbers are a request, and any other line is malformed
-  pub line-answered : (f : List ℕ) (gs : List (List ℕ)) → isField f ≡ true → areFields gs ≡ true → answers page (f ++ behind gs) ≡ answerTo page (fieldsRequest f gs)
+  pub line-answered : (f : List ℕ) (gs : List (List ℕ)) → isField f ≡ true
+      → areFields gs ≡ true → answers page (f ++ behind gs) ≡ answerTo page (fieldsRequest f gs)
   line-answered f gs e es = line-gets (λ r. answerTo page r) answer-gets f gs e es
 
-  pub line-written : (f : List ℕ) (gs : List (List ℕ)) → isField f ≡ true → areFields gs ≡ true → songs page (f ++ behind gs) ≡ songTo page (fieldsRequest f gs)
+  pub line-written : (f : List ℕ) (gs : List (List ℕ)) → isField f ≡ true
+      → areFields gs ≡ true → songs page (f ++ behind gs) ≡ songTo page (fieldsRequest f gs)
   line-written f gs e es = line-gets (λ r. songTo page r) song-gets f gs e es
 
   -- numbers of any length
-  pub request-answered : (ps ns : List ℕ) → isNumber ps ≡ true → isNumber ns ≡ true → answers page (ps ++ behind (ns ∷ [])) ≡ answerLine (songAnswer (spelled 0 ps) (spelled 0 ns) page)
+  pub request-answered : (ps ns : List ℕ) → isNumber ps ≡ true → isNumber ns ≡ true
+      → answers page (ps ++ behind (ns ∷ [])) ≡ answerLine (songAnswer (spelled 0 ps) (spelled 0 ns) page)
   request-answered ps ns e f = two-get (λ r. answerTo page r) answer-gets ps ns e f
 
   -- a request as a program writes it, of any two numbers up to twenty digits
   pub decimal-request : (p n : ℕ) → p < 10 ^ 20 → n < 10 ^ 20
-      → (answers page (decimal p ++ behind (decimal n ∷ [])) ≡ answerLine (songAnswer p n page)) × (songs page (decimal p ++ behind (decimal n ∷ [])) ≡ withSong p n (songAnswer p n page))
+      → (answers page (decimal p ++ behind (decimal n ∷ [])) ≡ answerLine (songAnswer p n page))
+      × (songs page (decimal p ++ behind (decimal n ∷ [])) ≡ withSong p n (songAnswer p n page))
   decimal-request p n h i =
       let x = written 19 p h in
       let y = written 19 n i in (
@@ -117,7 +134,8 @@ module _ (page : List ℕ) where
       )
 
   -- the program asks byte by byte: what it tells and writes for each is the input's whole
-  pub byte-answered : (c : Line) (b : ℕ) → answerBy (λ k. answerTo page (lineRequest k)) c b ≡ answerTo page (request c b)
+  pub byte-answered : (c : Line) (b : ℕ)
+      → answerBy (λ k. answerTo page (lineRequest k)) c b ≡ answerTo page (request c b)
   byte-answered c b = byte-gets (λ r. answerTo page r) answer-gets c b
 
   pub byte-written : (c : Line) (b : ℕ) → answerBy (λ k. songTo page (lineRequest k)) c b ≡ songTo page (request c b)
@@ -138,8 +156,12 @@ module _ (page : List ℕ) where
 
   -- a last line without its 0AH is answered as with it
   pub last-line : (xs : List ℕ) (b : ℕ) → eqb b 10 ≡ false
-      → (answers page (xs ++ b ∷ []) ≡ answers page (xs ++ b ∷ 10 ∷ [])) × (songs page (xs ++ b ∷ []) ≡ songs page (xs ++ b ∷ 10 ∷ []))
-  last-line xs b e = (sentences.last-line (λ c. answerTo page (lineRequest c)) xs b e, sentences.last-line (λ c. songTo page (lineRequest c)) xs b e)
+      → (answers page (xs ++ b ∷ []) ≡ answers page (xs ++ b ∷ 10 ∷ []))
+      × (songs page (xs ++ b ∷ []) ≡ songs page (xs ++ b ∷ 10 ∷ []))
+  last-line xs b e = (
+    sentences.last-line (λ c. answerTo page (lineRequest c)) xs b e,
+    sentences.last-line (λ c. songTo page (lineRequest c)) xs b e,
+  )
 
   -- as many lines come out as go in: an answer has one 0AH
   ends-answer : (a : SongAnswer) → lineEnds (answerLine a) ≡ 1
@@ -147,16 +169,20 @@ module _ (page : List ℕ) where
   ends-answer a =
       let n = decimal (orZero (songNumber a)) in
       let t = decimal (theftsIn a) in
-      ends-parts (n ++ (44 ∷ t)) (10 ∷ []) ∙ rw (ends-parts n (44 ∷ t), ends-decimal 20 (orZero (songNumber a)), ends-decimal 20 (theftsIn a))
+      ends-parts (n ++ (44 ∷ t)) (10 ∷ [])
+      ∙ rw (ends-parts n (44 ∷ t), ends-decimal 20 (orZero (songNumber a)), ends-decimal 20 (theftsIn a))
 
-  ends-line : (c : Line) (x : Bool) → lineEnds (answerTo page (if x then Song (atMost 255 (c .previous)) (c .last) else Malformed)) ≡ 1
+  ends-line : (c : Line) (x : Bool)
+      → lineEnds (answerTo page (if x then Song (atMost 255 (c .previous)) (c .last) else Malformed)) ≡ 1
   unfolding count
   ends-line c true = ends-answer (songAnswer (atMost 255 (c .previous)) (c .last) page)
   ends-line c false = refl
 
-  pub line-for-line : (c : Line) (bs : List ℕ) → lineEnds (answersBy (λ k. answerTo page (lineRequest k)) c bs) ≡ lineEnds bs
+  pub line-for-line : (c : Line) (bs : List ℕ)
+      → lineEnds (answersBy (λ k. answerTo page (lineRequest k)) c bs) ≡ lineEnds bs
   unfolding lineRequest
-  line-for-line c bs = sentences.line-for-line (λ k. answerTo page (lineRequest k)) (λ k. ends-line k (isRequest k)) c bs
+  line-for-line c bs =
+      sentences.line-for-line (λ k. answerTo page (lineRequest k)) (λ k. ends-line k (isRequest k)) c bs
 
   -- ---- some lines
 

@@ -81,7 +81,8 @@ pub struct Written {
 // The song behind the page's first two bytes, which are for P and the own ID.
 fn write_behind(page: &mut [u8], polyphony: u8, n: usize) -> SongAnswer
     requires { ⌜ 2 ≤ length (now page) ⌝ }
-    ensures { λ r. ⌜ (r ≡ songAnswer polyphony n (drop 2 (now (page .entry)))) × (now (page .exit) ≡ take 2 (now (page .entry)) ++ songWritten polyphony n (drop 2 (now (page .entry)))) ⌝ }
+    ensures { λ r. ⌜ (r ≡ songAnswer polyphony n (drop 2 (now (page .entry))))
+        × (now (page .exit) ≡ take 2 (now (page .entry)) ++ songWritten polyphony n (drop 2 (now (page .entry)))) ⌝ }
 {
     song::write_song(polyphony, n, &mut page[2..])
 }

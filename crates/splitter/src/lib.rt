@@ -2,7 +2,8 @@
 // value and every byte.
 // It knows neither the polyphony nor the own ID nor the table. Assumes nothing.
 ghost use mathlib.Core.Path.{_≡_};
-ghost use Rattle.splitter.specs.Split.{begun, quiet, stored, oneDataByte, atLast, completed, dataByte, ended, split};
+ghost use Rattle.splitter.specs.Split.{begun, quiet, stored, oneDataByte};
+ghost use Rattle.splitter.specs.Split.{atLast, completed, dataByte, ended, split};
 use loops::if_else;
 
 // Between two bytes: the status byte in force, 0 for none (F0 while a SysEx is open, F1 to F3 while data bytes are

@@ -48,14 +48,18 @@ module _ (p : ℕ) where
   abbrev share : ℕ → Entry → List Entry
   share v e = if leb (e .value) p then entry (e .channel) (e .value - v) ∷ [] else []
 
-  shares-snoc : (v : ℕ) (l : List Entry) (e : Entry) → sharesFrom p v (l ++ (e ∷ [])) ≡ sharesFrom p v l ++ share (lastValue v l) e
+  shares-snoc : (v : ℕ) (l : List Entry) (e : Entry)
+      → sharesFrom p v (l ++ (e ∷ [])) ≡ sharesFrom p v l ++ share (lastValue v l) e
   unfolding sharesFrom
   shares-snoc v [] e = refl
   shares-snoc v (x ∷ l) e = go (leb (x .value) p) (shares-snoc (x .value) l e)
     where
-      go : (b : Bool) → sharesFrom p (x .value) (l ++ (e ∷ [])) ≡ sharesFrom p (x .value) l ++ share (lastValue (x .value) l) e
-          → (if b then entry (x .channel) (x .value - v) ∷ sharesFrom p (x .value) (l ++ (e ∷ [])) else sharesFrom p (x .value) (l ++ (e ∷ [])))
-          ≡ (if b then entry (x .channel) (x .value - v) ∷ sharesFrom p (x .value) l else sharesFrom p (x .value) l) ++ share (lastValue (x .value) l) e
+      go : (b : Bool)
+          → sharesFrom p (x .value) (l ++ (e ∷ [])) ≡ sharesFrom p (x .value) l ++ share (lastValue (x .value) l) e
+          → (if b then entry (x .channel) (x .value - v) ∷ sharesFrom p (x .value) (l ++ (e ∷ []))
+          else sharesFrom p (x .value) (l ++ (e ∷ [])))
+          ≡ (if b then entry (x .channel) (x .value - v) ∷ sharesFrom p (x .value) l else sharesFrom p (x .value) l)
+          ++ share (lastValue (x .value) l) e
       go true ih = ap (λ (r : List Entry). entry (x .channel) (x .value - v) ∷ r) ih
       go false ih = ih
 
@@ -68,7 +72,8 @@ module _ (p : ℕ) where
         go (some x) = refl
         go none = refl
     over-append (x ∷ l) m =
-        ap (λ (o : Option ℕ). otherwise o (if ltb (x .value) (n (x .channel)) then some (x .channel) else none)) (over-append l m)
+        ap (λ (o : Option ℕ). otherwise o (if ltb (x .value) (n (x .channel)) then some (x .channel) else none))
+        (over-append l m)
         ∙ otherwise-assoc (overShare n m) (overShare n l) _
 
     -- whether entry e is over its share, where v is the value before it
@@ -91,17 +96,21 @@ module _ (p : ℕ) where
       abbrev upTo-entry : ℕ → Option ℕ
       upTo-entry j = overShare n (sharesFrom p 0 (take j l))
 
-      turn : upTo-entry i ≡ otherwise (if isOver (before l (i - 1)) here then some (here .channel) else none) (upTo-entry (i - 1))
+      turn : upTo-entry i
+          ≡ otherwise (if isOver (before l (i - 1)) here then some (here .channel) else none) (upTo-entry (i - 1))
       turn =
           let e : i ≡ suc (i - 1) = omega arith in
-          let s : take i l ≡ take (i - 1) l ++ (here ∷ []) = ap (λ (j : ℕ). take j l) e ∙ take-suc l (i - 1) none-entry (omega arith) in
+          let s : take i l ≡ take (i - 1) l ++ (here ∷ []) =
+          ap (λ (j : ℕ). take j l) e ∙ take-suc l (i - 1) none-entry (omega arith) in
           let v = last-take l (i - 1) (omega arith) in
           ap (λ (m : List Entry). overShare n (sharesFrom p 0 m)) s
           ∙ ap (overShare n) (shares-snoc 0 (take (i - 1) l) here)
           ∙ over-append (sharesFrom p 0 (take (i - 1) l)) (share (lastValue 0 (take (i - 1) l)) here)
-          ∙ ap (λ (o : Option ℕ). otherwise o (upTo-entry (i - 1))) (over-one (lastValue 0 (take (i - 1) l)) here ∙ ap (λ (v : ℕ). if isOver v here then some (here .channel) else none) v)
+          ∙ ap (λ (o : Option ℕ). otherwise o (upTo-entry (i - 1))) (over-one (lastValue 0 (take (i - 1) l)) here
+          ∙ ap (λ (v : ℕ). if isOver v here then some (here .channel) else none) v)
 
-      pub over-yes : (r : Option ℕ) → upTo-entry i ≡ r → isOver (before l (i - 1)) here ≡ true → some (here .channel) ≡ r
+      pub over-yes : (r : Option ℕ) → upTo-entry i ≡ r
+          → isOver (before l (i - 1)) here ≡ true → some (here .channel) ≡ r
       over-yes r e t = rw (turn, t) at e
 
       pub over-no : (r : Option ℕ) → upTo-entry i ≡ r → isOver (before l (i - 1)) here ≡ false → upTo-entry (i - 1) ≡ r

@@ -21,7 +21,8 @@ enum Loser {
 
 // Whether the channel of an entry, unmasked, is over its share with a new note of `channel`.
 fn is_over(generators: Generators, entry: Entry, before: u8, polyphony: u8, channel: u8) -> bool
-    ensures { λ r. ⌜ r ≡ (leb (entry .value) polyphony && ltb (entry .value - before) (counted generators channel (entry .channel))) ⌝ }
+    ensures { λ r. ⌜ r ≡ (leb (entry .value) polyphony
+        && ltb (entry .value - before) (counted generators channel (entry .channel))) ⌝ }
 {
     if polyphony < entry.value {
         return false;

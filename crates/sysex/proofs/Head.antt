@@ -14,13 +14,19 @@ use Rattle.sysex.specs.SysEx.{startsWith, isMip, isSystemOn}
 
 module _ (id n : ℕ) (l : List ℕ) (size : length l ≡ 37) where
   head-of : (a b c : ℕ) → 4 ≤ n → startsWith id a b c (take n l) ≡ startsWith id a b c l
-  head-of a b c h = rw (getD-take n l 0 0 (omega arith), getD-take n l 1 0 (omega arith), getD-take n l 2 0 (omega arith), getD-take n l 3 0 (omega arith))
+  head-of a b c h = rw (
+    getD-take n l 0 0 (omega arith),
+    getD-take n l 1 0 (omega arith),
+    getD-take n l 2 0 (omega arith),
+    getD-take n l 3 0 (omega arith),
+  )
 
   pub mip-head : isMip id (take n l) ≡ leb 4 n && startsWith id 0x7F 0x0B 0x01 l
   unfolding isMip
   mip-head = go (leb 4 n) refl
     where
-      go : (t : Bool) → leb 4 n ≡ t → leb 4 (length (take n l)) && startsWith id 0x7F 0x0B 0x01 (take n l) ≡ t && startsWith id 0x7F 0x0B 0x01 l
+      go : (t : Bool) → leb 4 n ≡ t
+          → leb 4 (length (take n l)) && startsWith id 0x7F 0x0B 0x01 (take n l) ≡ t && startsWith id 0x7F 0x0B 0x01 l
       go true t =
           let h = leb-true 4 n t in
           let m = length-take n l in
@@ -34,7 +40,8 @@ module _ (id n : ℕ) (l : List ℕ) (size : length l ≡ 37) where
   unfolding isSystemOn
   system-on-head = go (eqb n 4) refl
     where
-      go : (t : Bool) → eqb n 4 ≡ t → eqb (length (take n l)) 4 && startsWith id 0x7E 0x09 0x01 (take n l) ≡ t && startsWith id 0x7E 0x09 0x01 l
+      go : (t : Bool) → eqb n 4 ≡ t
+          → eqb (length (take n l)) 4 && startsWith id 0x7E 0x09 0x01 (take n l) ≡ t && startsWith id 0x7E 0x09 0x01 l
       go true t =
           let h = eqb-true n 4 t in
           let m = length-take n l in

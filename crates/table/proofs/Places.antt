@@ -18,7 +18,8 @@ unfolding tableOf
 entries-of-table l h = padded-take (entry 0 0) 16 l h
 
 -- a turn of a loop that puts a list into the places
-pub places-turn : (w : List Entry) (d : Entry) (i : ℕ) (out : List Entry) (v : Entry) → i < length w → i < 16 → out ≡ padded 16 (entry 0 0) (take i w) → v ≡ getD w i d
+pub places-turn : (w : List Entry) (d : Entry) (i : ℕ) (out : List Entry) (v : Entry)
+    → i < length w → i < 16 → out ≡ padded 16 (entry 0 0) (take i w) → v ≡ getD w i d
     → set out i v ≡ padded 16 (entry 0 0) (take (i + 1) w)
 places-turn w d i out v k h p q =
     let n : length (take i w) ≡ i = rw length-take (omega arith) in

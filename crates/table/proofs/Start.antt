@@ -23,6 +23,15 @@ unfolding startTable tableOf padded listed
 start-well-formed p = record {
   short = search needs;
   rising = search needs;
-  distinct = (refl, (refl, (refl, (refl, (refl, (refl, (refl, (refl, (refl, (refl, (refl, (refl, (refl, (refl, (refl, (refl, tt))))))))))))))));
+  distinct = (
+    refl,
+    (
+      refl,
+      (
+        refl,
+        (refl, (refl, (refl, (refl, (refl, (refl, (refl, (refl, (refl, (refl, (refl, (refl, (refl, tt))))))))))))),
+      ),
+    ),
+  );
   channels = search needs;
 }

@@ -14,7 +14,8 @@ use Rattle.table.specs.declared.Table.{Table}
 use Rattle.table.specs.Table.{entry, entriesOf}
 
 -- going as far as the count, or to 16 where it is above, is going over all entries
-pub all-entries : (t : Table) (n : ℕ) → length (t .entries) ≡ 16 → n ≡ atMost 16 (t .count) → take n (t .entries) ≡ entriesOf t
+pub all-entries : (t : Table) (n : ℕ) → length (t .entries) ≡ 16
+    → n ≡ atMost 16 (t .count) → take n (t .entries) ≡ entriesOf t
 all-entries t n e q = ap (λ (m : ℕ). take m (t .entries)) q ∙ take-at-most 16 (t .count) (t .entries) e
 
 module _ (l : List Entry) (n i : ℕ) where

@@ -53,6 +53,7 @@ unfolding decimalWithin
 digits-within zero n = omega arith
 digits-within (suc k) n = go (ltb n 10) (digits-within k (n / 10))
   where
-    go : (b : Bool) → length (decimalWithin k (n / 10)) ≤ k → length (if b then (48 + n) ∷ [] else decimalWithin k (n / 10) ++ ((48 + n % 10) ∷ [])) ≤ suc k
+    go : (b : Bool) → length (decimalWithin k (n / 10)) ≤ k
+        → length (if b then (48 + n) ∷ [] else decimalWithin k (n / 10) ++ ((48 + n % 10) ∷ [])) ≤ suc k
     go true h = omega arith
     go false h = rw (length-append (decimalWithin k (n / 10)) ((48 + n % 10) ∷ [])) (omega arith)

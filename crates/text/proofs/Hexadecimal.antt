@@ -29,8 +29,10 @@ blank-behind (x ∷ l) (suc i) h = rw (ne-eqb (suc i) 0 (λ e. omega arith))
 
 -- a loop that puts bytes so: a turn, and its end
 module _ (t : List ℕ) (i : ℕ) {p q : List ℕ} {at k : ℕ} (a : Put p at (hexadecimals (take i t)) k q) where
-  pub hex-next : {r s : List ℕ} {l m : ℕ} → i < length t → Put q k (blankAt i) l r → Put r l (hexadecimal (getD t i 0)) m s → Put p at (hexadecimals (take (i + 1) t)) m s
-  hex-next h b c = rw (add-one i, take-suc t i 0 h, more (take i t) (getD t i 0), blank-behind t i h) (joined a (joined b c))
+  pub hex-next : {r s : List ℕ} {l m : ℕ} → i < length t → Put q k (blankAt i) l r
+      → Put r l (hexadecimal (getD t i 0)) m s → Put p at (hexadecimals (take (i + 1) t)) m s
+  hex-next h b c =
+      rw (add-one i, take-suc t i 0 h, more (take i t) (getD t i 0), blank-behind t i h) (joined a (joined b c))
 
   pub hex-end : length t ≤ i → Put p at (hexadecimals t) k q
   hex-end h = rw (take-all i t h) at a

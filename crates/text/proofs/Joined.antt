@@ -26,7 +26,8 @@ pub nothing-put : (p : List ℕ) (at : ℕ) → Put p at [] at p
 nothing-put p at = record { place = omega arith; page = refl }
 
 pub joined : {p q s t u : List ℕ} {at k m : ℕ} → Put p at t k q → Put q k u m s → Put p at (t ++ u) m s
-joined {p} {q} {s} {t} {u} {at} {k} {m} a b = record { place = place; page = b .page ∙ rw (a .page) (go (leb (at + length t) (length p)) refl) }
+joined {p} {q} {s} {t} {u} {at} {k} {m} a b =
+    record { place = place; page = b .page ∙ rw (a .page) (go (leb (at + length t) (length p)) refl) }
   where
     same : length q ≡ length p
     same = rw (a .page) (length-sets p at t)
@@ -60,5 +61,6 @@ module _ (t : List ℕ) (i : ℕ) {p q : List ℕ} {at k : ℕ} (a : Put p at (t
   put-end h = rw (take-all i t h) at a
 
 -- where the page has room, the text stands in it whole, between what was before and behind it
-pub whole : {p q t : List ℕ} {at k : ℕ} → at + length t ≤ length p → Put p at t k q → (k ≡ at + length t) × (q ≡ take at p ++ t ++ drop (at + length t) p)
+pub whole : {p q t : List ℕ} {at k : ℕ} → at + length t ≤ length p → Put p at t k q
+    → (k ≡ at + length t) × (q ≡ take at p ++ t ++ drop (at + length t) p)
 whole {p} {q} {t} {at} {k} h a = let x = a .place in (omega arith, a .page ∙ sets-eq t p at h)

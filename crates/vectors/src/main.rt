@@ -19,10 +19,10 @@
 //                 in three numbers, highest first; below it the buffer, all FF before, where it has 1 to 64 bytes. l is
 //                 at most 65,538
 //     V           the service page of the device, in a buffer of 323 bytes: its 17 lines as they are
-//     V hh ll     the same in a buffer of 256 × hh + ll bytes, at most 1,024, all FF before: its number 18 on a line, or
-//                 the page's 17 lines; below that, in hexadecimal with blanks between, the bytes of the buffer that are
-//                 no page's (all of them where it was refused, else those behind the 323rd), on a line, where there are
-//                 1 to 64 of them
+//     V hh ll     the same in a buffer of 256 × hh + ll bytes, at most 1,024, all FF before: its number 18 on a line,
+//                 or the page's 17 lines; below that, in hexadecimal with blanks between, the bytes of the buffer that
+//                 are no page's (all of them where it was refused, else those behind the 323rd), on a line, where
+//                 there are 1 to 64 of them
 //     O oo ..     begins a log with this order, 1 to 64 numbers or none
 //     A bb ..     a part of the log, 1 to 64 bytes
 //     E           the end of the log so far: number, line and message, the message in hexadecimal

@@ -54,20 +54,26 @@ use Rattle.note_book.proofs.Witness.{IsGiven, not-lost}
 abbrev pub drum : List Event
 drum = Report 0 ∷ Byte 0x99 ∷ Byte 36 ∷ Byte 64 ∷ []
 
-pub drum-served : isServed 10 36 (Live .answer (after Live (begin 1 0) (Report 0 ∷ Byte 0x99 ∷ Byte 36 ∷ [])) (Byte 64)) ≡ true
-unfolding total begun stored oneDataByte completed dataByte opened ended statusByte split decode sharesFrom lookup silent fresh reported started heard byteTaken reportTaken taken keepMessage keep after
-drum-served = demand-3 1 0 drum .shared [] drum [] refl (tt, (tt, (tt, (tt, tt)))) 10 (0-of-1, (tt, (tt, (tt, ((λ e. 1-of-1), tt))))) .1 .1 .1 .0 .0 refl
+pub drum-served : isServed 10 36
+    (Live .answer (after Live (begin 1 0) (Report 0 ∷ Byte 0x99 ∷ Byte 36 ∷ [])) (Byte 64)) ≡ true
+unfolding total begun stored oneDataByte completed dataByte opened ended statusByte split decode
+    sharesFrom lookup silent fresh reported started heard byteTaken reportTaken taken keepMessage keep after
+drum-served = demand-3 1 0 drum .shared [] drum [] refl (tt, (tt, (tt, (tt, tt)))) 10
+    (0-of-1, (tt, (tt, (tt, ((λ e. 1-of-1), tt))))) .1 .1 .1 .0 .0 refl
 
--- ---- P 1, nothing played: channel 1 has share 0, and is answered note all the same, since the claim of fairness knows that no generator has a note
+-- ---- P 1, nothing played: channel 1 has share 0, and is answered note all the same, since the claim of fairness
+-- knows that no generator has a note
 
 abbrev first : Both
 first = after Live (begin 1 0) (Byte 0x90 ∷ Byte 60 ∷ [])
 
 pub idle-generator-given : IsGiven (Live .answer first (Byte 64))
-unfolding begun stored oneDataByte completed dataByte opened ended statusByte split decode sharesFrom lookup fresh started heard byteTaken taken keep after
+unfolding begun stored oneDataByte completed dataByte opened ended statusByte
+    split decode sharesFrom lookup fresh started heard byteTaken taken keep after
 idle-generator-given = go (isLoss (first .book) 1 60 (Live .answer first (Byte 64))) refl
   where
-    go : (l : Bool) → isLoss (first .book) 1 60 (Live .answer first (Byte 64)) ≡ l → IsGiven (Live .answer first (Byte 64))
+    go : (l : Bool) → isLoss (first .book) 1 60 (Live .answer first (Byte 64)) ≡ l
+        → IsGiven (Live .answer first (Byte 64))
     go true e = absurd (false≢true (demand-3 1 0 (Byte 0x90 ∷ Byte 60 ∷ Byte 64 ∷ []) .fair .1 .1 .0 e 0 1-of-1 .0))
     go false e = not-lost (first .book) 1 60 (Live .answer first (Byte 64)) refl e
 
@@ -77,11 +83,18 @@ abbrev theft : Both
 theft = after Live (begin 1 0) (Byte 0x90 ∷ Byte 60 ∷ Byte 64 ∷ Byte 0x99 ∷ Byte 36 ∷ [])
 
 -- the loss does happen, and the claim gives what it stands on: generator 0 had a note, and not one that the drum ends
-pub theft-when-full : (isLoss (theft .book) 10 36 (Live .answer theft (Byte 64)) ≡ true) × ((isNote (theft .book .notes 0) ≡ true) × (isEnded true 10 36 (theft .book .notes 0) ≡ false))
-unfolding upTo total filterBy firstOf padded begun stored oneDataByte completed dataByte opened ended statusByte split decode tableOf startTable sharesFrom lookup shareOf groupOf excludes agesOf newest assigned silent changes stateAfter changed isAmong leaves silenced lowestIdle wanted oldest busyCount overShare stealFrom victim cleared choice noteOn fresh isRhythm playNoteOn played started heard byteTaken taken keepMessage keep after
+pub theft-when-full : (isLoss (theft .book) 10 36 (Live .answer theft (Byte 64)) ≡ true)
+    × ((isNote (theft .book .notes 0) ≡ true) × (isEnded true 10 36 (theft .book .notes 0) ≡ false))
+unfolding upTo total filterBy firstOf padded begun stored oneDataByte completed dataByte opened ended statusByte
+    split decode tableOf startTable sharesFrom lookup shareOf groupOf excludes agesOf newest assigned silent
+    changes stateAfter changed isAmong leaves silenced lowestIdle wanted oldest busyCount overShare stealFrom victim
+    cleared choice noteOn fresh isRhythm playNoteOn played started heard byteTaken taken keepMessage keep after
 theft-when-full =
-    let lost : isLoss (theft .book) 10 36 (Live .answer theft (Byte 64)) ≡ true = refl in
-    (lost, demand-3 1 0 (Byte 0x90 ∷ Byte 60 ∷ Byte 64 ∷ Byte 0x99 ∷ Byte 36 ∷ Byte 64 ∷ []) .fair .1 .1 .1 .1 .1 .0 lost 0 1-of-1)
+    let lost : isLoss (theft .book) 10 36 (Live .answer theft (Byte 64)) ≡ true = refl in (
+      lost,
+      demand-3 1 0
+          (Byte 0x90 ∷ Byte 60 ∷ Byte 64 ∷ Byte 0x99 ∷ Byte 36 ∷ Byte 64 ∷ []) .fair .1 .1 .1 .1 .1 .0 lost 0 1-of-1,
+    )
 
 -- ---- runs that bring a drum along: nothing is forgotten where they start
 
@@ -93,9 +106,13 @@ abbrev no-room : Both
 no-room = after Live (begin 1 0) (first-drum ++ (Byte 0x90 ∷ Byte 60 ∷ []))
 
 pub drum-kept : isOf 10 (stolenNote (no-room .book) 1 60 (Live .answer no-room (Byte 64))) ≡ false
-unfolding upTo total filterBy firstOf padded begun stored oneDataByte completed dataByte opened ended statusByte split decode tableOf startTable sharesFrom lookup shareOf groupOf excludes agesOf newest assigned silent changes stateAfter changed isAmong leaves silenced lowestIdle cleared choice noteOn fresh isRhythm playNoteOn played started heard byteTaken taken keepMessage keep after
+unfolding upTo total filterBy firstOf padded begun stored oneDataByte completed dataByte opened
+    ended statusByte split decode tableOf startTable sharesFrom lookup shareOf groupOf excludes agesOf
+    newest assigned silent changes stateAfter changed isAmong leaves silenced lowestIdle cleared
+    choice noteOn fresh isRhythm playNoteOn played started heard byteTaken taken keepMessage keep after
 drum-kept =
-    demand-3 1 0 (first-drum ++ (Byte 0x90 ∷ Byte 60 ∷ Byte 64 ∷ Report 0 ∷ [])) .shared first-drum (Byte 0x90 ∷ Byte 60 ∷ Byte 64 ∷ []) (Report 0 ∷ []) refl (tt, (tt, (tt, tt)))
+    demand-3 1 0 (first-drum ++ (Byte 0x90 ∷ Byte 60 ∷ Byte 64 ∷ Report 0 ∷ [])) .shared first-drum
+    (Byte 0x90 ∷ Byte 60 ∷ Byte 64 ∷ []) (Report 0 ∷ []) refl (tt, (tt, (tt, tt)))
     10 (1-of-1, (tt, (tt, ((λ e. absurd (1-not-10 e)), tt)))) .1 .1 .0 .1
 
 -- P 2: channel 1 takes the second generator, and then channel 10 wants a second drum, which with the first is all of
@@ -107,7 +124,11 @@ abbrev pub run : List Event
 run = Byte 0x90 ∷ Byte 60 ∷ Byte 64 ∷ Byte 0x99 ∷ Byte 38 ∷ Byte 64 ∷ []
 
 pub second-drum-served : isServed 10 38 (Live .answer all-taken (Byte 64)) ≡ true
-unfolding upTo total filterBy firstOf padded begun stored oneDataByte completed dataByte opened ended statusByte split decode tableOf startTable sharesFrom lookup shareOf groupOf excludes agesOf newest assigned silent changes stateAfter changed isAmong leaves silenced lowestIdle cleared choice noteOn fresh isRhythm playNoteOn played started heard byteTaken taken keepMessage keep after
+unfolding upTo total filterBy firstOf padded begun stored oneDataByte completed dataByte opened
+    ended statusByte split decode tableOf startTable sharesFrom lookup shareOf groupOf excludes agesOf
+    newest assigned silent changes stateAfter changed isAmong leaves silenced lowestIdle cleared
+    choice noteOn fresh isRhythm playNoteOn played started heard byteTaken taken keepMessage keep after
 second-drum-served =
-    demand-3 2 0 (first-drum ++ (run ++ (Report 0 ∷ []))) .shared first-drum run (Report 0 ∷ []) refl (tt, (tt, (tt, (tt, (tt, (tt, tt)))))) 10
+    demand-3 2 0 (first-drum ++ (run ++ (Report 0 ∷ []))) .shared first-drum run
+    (Report 0 ∷ []) refl (tt, (tt, (tt, (tt, (tt, (tt, tt)))))) 10
     (1-of-2, (tt, (tt, ((λ e. absurd (1-not-10 e)), (tt, (tt, ((λ e. 2-of-2), tt))))))) .1 .1 .1 .1 .1 .0 .0 refl

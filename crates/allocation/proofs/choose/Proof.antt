@@ -15,21 +15,32 @@ returns-2 : tie.Need-returns-2
 unfolding choice
 returns-2 c =
     let b = c .before .before .before .before in
-    simp (sym (b .before .before .lowest-idle .ensures) ∙ b .enum-told .given .1, sym (c .before .before .before .oldest .ensures) ∙ c .before .g2 .given .1)
+    simp (
+      sym (b .before .before .lowest-idle .ensures) ∙ b .enum-told .given .1,
+      sym (c .before .before .before .oldest .ensures) ∙ c .before .g2 .given .1,
+    )
 
 returns-3 : tie.Need-returns-3
 unfolding choice
 returns-3 c =
     let o = c .before .before .before .before in
     let b = o .before .before .before in
-    simp (sym (b .before .before .lowest-idle .ensures) ∙ b .enum-told .given .1, sym (o .before .before .oldest .ensures) ∙ o .enum-told2 .given .1, sym (c .before .before .before .victim .ensures) ∙ c .before .g3 .given .1)
+    simp (
+      sym (b .before .before .lowest-idle .ensures) ∙ b .enum-told .given .1,
+      sym (o .before .before .oldest .ensures) ∙ o .enum-told2 .given .1,
+      sym (c .before .before .before .victim .ensures) ∙ c .before .g3 .given .1,
+    )
 
 returns-4 : tie.Need-returns-4
 unfolding choice
 returns-4 c =
     let o = c .before .before .before in
     let b = o .before .before .before in
-    simp (sym (b .before .before .lowest-idle .ensures) ∙ b .enum-told .given .1, sym (o .before .before .oldest .ensures) ∙ o .enum-told2 .given .1, sym (c .before .before .victim .ensures) ∙ c .enum-told3 .given .1)
+    simp (
+      sym (b .before .before .lowest-idle .ensures) ∙ b .enum-told .given .1,
+      sym (o .before .before .oldest .ensures) ∙ o .enum-told2 .given .1,
+      sym (c .before .before .victim .ensures) ∙ c .enum-told3 .given .1,
+    )
 
 pub choose-spec : {M : Type 1} → statement M
 choose-spec =

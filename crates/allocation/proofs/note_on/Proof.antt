@@ -14,13 +14,24 @@ returns-2 : tie.Need-returns-2
 unfolding noteOn
 returns-2 c =
     let b = c .before .before .before .before in
-    simp (sym (b .before .masks .ensures) ∙ b .if1 .left, sym (c .before .before .before .clear .ensures), sym (c .before .before .choose .ensures), c .enum-told .given .1)
+    simp (
+      sym (b .before .masks .ensures) ∙ b .if1 .left,
+      sym (c .before .before .before .clear .ensures),
+      sym (c .before .before .choose .ensures),
+      c .enum-told .given .1,
+    )
 
 returns-3 : tie.Need-returns-3
 unfolding noteOn
 returns-3 c =
     let b = c .before .before .before .before in
-    simp (sym (b .before .before .before .masks .ensures) ∙ b .before .before .if1 .left, c .assign .ensures, sym (b .before .clear .ensures), sym (b .choose .ensures), c .before .before .taken .given .1)
+    simp (
+      sym (b .before .before .before .masks .ensures) ∙ b .before .before .if1 .left,
+      c .assign .ensures,
+      sym (b .before .clear .ensures),
+      sym (b .choose .ensures),
+      c .before .before .taken .given .1,
+    )
 
 pub note-on-spec : {M : Type 1} → statement M
 note-on-spec =

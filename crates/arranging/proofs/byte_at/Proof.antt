@@ -10,10 +10,16 @@ use Rattle.arranging.proofs.byte_at.Statement.{statement}
 use Rattle.arranging.proofs.byte_at.Tie as tie
 
 returns : tie.Need-returns
-returns c = let a = c .before .args in let g = c .before .good in byte-head (a .t1) (a .t2) (g .0 .1 .0 .1) (g .1 .0 .1 .0 .1) (a .i) (c .if1 .taken)
+returns c =
+    let a = c .before .args in
+    let g = c .before .good in
+    byte-head (a .t1) (a .t2) (g .0 .1 .0 .1) (g .1 .0 .1 .0 .1) (a .i) (c .if1 .taken)
 
 returns-2 : tie.Need-returns-2
-returns-2 c = let a = c .before .before .args in let g = c .before .before .good in byte-last (a .t1) (a .t2) (g .0 .1 .0 .1) (g .1 .0 .1 .0 .1) (a .i) (c .if2 .taken)
+returns-2 c =
+    let a = c .before .before .args in
+    let g = c .before .before .good in
+    byte-last (a .t1) (a .t2) (g .0 .1 .0 .1) (g .1 .0 .1 .0 .1) (a .i) (c .if2 .taken)
 
 returns-3 : tie.Need-returns-3
 returns-3 c =
@@ -21,7 +27,8 @@ returns-3 c =
     let a = s .args in
     let g = s .good in
     let t : (a .i - 5) % 2 ≡ 0 = c .before .if3 .taken in
-    c .less .ensures ∙ byte-channel (a .t1) (a .t2) (g .0 .1 .0 .1) (g .1 .0 .1 .0 .1) (a .i) ((a .i - 5) / 2) (omega arith) (omega arith)
+    c .less .ensures ∙ byte-channel (a .t1) (a .t2) (g .0 .1 .0 .1)
+    (g .1 .0 .1 .0 .1) (a .i) ((a .i - 5) / 2) (omega arith) (omega arith)
 
 returns-4 : tie.Need-returns-4
 returns-4 c =

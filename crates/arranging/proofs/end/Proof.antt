@@ -18,7 +18,10 @@ returns-2 : tie.Need-returns-2
 unfolding finished
 returns-2 c =
     let n = c .before .before .before .before .before .args .r .song .number in
-    simp (not-false (eqb n 0) (sym (c .before .before .has-fallen .ensures) ∙ c .before .if1 .left), c .end-song .ensures)
+    simp (
+      not-false (eqb n 0) (sym (c .before .before .has-fallen .ensures) ∙ c .before .if1 .left),
+      c .end-song .ensures,
+    )
 
 pub end-spec : {M : Type 1} → statement M
 end-spec = tie.close (tie.spec (λ c κs. search needs) (λ c κs. search needs) returns (λ c κs. search needs) returns-2)

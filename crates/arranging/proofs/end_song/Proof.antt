@@ -15,4 +15,5 @@ unfolding endedBy
 returns-2 c = simp (eq-eqb _ _ (c .before .before .before .if1 .left), c .compose .ensures)
 
 pub end-song-spec : {M : Type 1} → statement M
-end-song-spec = tie.close (tie.spec (λ c κs. search needs) (λ c κs. search needs) returns (λ c κs. search needs) returns-2)
+end-song-spec =
+    tie.close (tie.spec (λ c κs. search needs) (λ c κs. search needs) returns (λ c κs. search needs) returns-2)

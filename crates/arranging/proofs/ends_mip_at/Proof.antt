@@ -9,7 +9,10 @@ use Rattle.arranging.proofs.ends_mip_at.Tie as tie
 returns : tie.Need-returns
 returns c =
     let s = c .before .before in
-    simp (sym (s .is-sysex .ensures ∙ ap isSysEx (s .before .completes .ensures)) ∙ c .before .if1 .taken, c .is-mip .ensures)
+    simp (
+      sym (s .is-sysex .ensures ∙ ap isSysEx (s .before .completes .ensures)) ∙ c .before .if1 .taken,
+      c .is-mip .ensures,
+    )
 
 returns-2 : tie.Need-returns-2
 returns-2 c =
@@ -17,4 +20,5 @@ returns-2 c =
     simp (sym (s .is-sysex .ensures ∙ ap isSysEx (s .before .completes .ensures)) ∙ c .if1 .left)
 
 pub ends-mip-at-spec : {M : Type 1} → statement M
-ends-mip-at-spec = tie.close (tie.spec (λ c κs. search needs) (λ c κs. search needs) (λ c κs. search needs) returns returns-2)
+ends-mip-at-spec =
+    tie.close (tie.spec (λ c κs. search needs) (λ c κs. search needs) (λ c κs. search needs) returns returns-2)

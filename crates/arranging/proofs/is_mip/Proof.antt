@@ -18,4 +18,5 @@ returns-3 c = sym (mip-no-other _ _ (sym (c .before .before .kind-of .ensures) �
 pub is-mip-spec : {M : Type 1} → statement M
 is-mip-spec =
     tie.close
-    (tie.spec (λ c κs. search needs) (λ c. search needs) (λ c. search needs) (λ c. search needs) returns returns-2 returns-3)
+    (tie.spec (λ c κs. search needs) (λ c. search needs)
+    (λ c. search needs) (λ c. search needs) returns returns-2 returns-3)

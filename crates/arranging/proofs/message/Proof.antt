@@ -12,7 +12,8 @@ returns : tie.Need-returns
 returns c =
     let a = c .before .before .before .before .before .args in
     c .end .ensures
-    ∙ ap finished (c .before .take .ensures ∙ ap (λ (r : Run). heard r (a .log .now)) (c .before .before .begin .ensures))
+    ∙ ap finished
+    (c .before .take .ensures ∙ ap (λ (r : Run). heard r (a .log .now)) (c .before .before .begin .ensures))
     ∙ parts (a .order .now) (a .log .now)
 
 pub message-spec : {M : Type 1} → statement M

@@ -12,14 +12,26 @@ returns : tie.Need-returns
 unfolding eventPlayed spoils
 returns c =
     let a = c .before in
-    simp (rw (a .before .before .ends-mip .ensures, a .before .loses-note .ensures, a .before .before .before .apply .ensures) at (a .if1 .taken), c .stop .ensures)
+    simp (
+      rw (
+        a .before .before .ends-mip .ensures,
+        a .before .loses-note .ensures,
+        a .before .before .before .apply .ensures,
+      ) at (a .if1 .taken),
+      c .stop .ensures,
+    )
 
 returns-2 : tie.Need-returns-2
 unfolding eventPlayed spoils
 returns-2 c =
     let a = c .before .before .before .before .before .before in
     let e = a .before .before .before .apply .ensures in
-    simp (rw (a .before .before .ends-mip .ensures, a .before .loses-note .ensures, e) at (a .if1 .left), rw e at (sym (c .before .is-quiet .ensures) ∙ c .if2 .taken), c .before .before .one-more .ensures, e)
+    simp (
+      rw (a .before .before .ends-mip .ensures, a .before .loses-note .ensures, e) at (a .if1 .left),
+      rw e at (sym (c .before .is-quiet .ensures) ∙ c .if2 .taken),
+      c .before .before .one-more .ensures,
+      e,
+    )
 
 returns-3 : tie.Need-returns-3
 unfolding eventPlayed spoils
@@ -27,7 +39,13 @@ returns-3 c =
     let q = c .before .before .before in
     let a = q .before .before .before .before .before .before in
     let e = a .before .before .before .apply .ensures in
-    simp (rw (a .before .before .ends-mip .ensures, a .before .loses-note .ensures, e) at (a .if1 .left), rw e at (sym (q .before .is-quiet .ensures) ∙ q .if2 .left), c .raise .ensures, q .before .before .one-more .ensures, e)
+    simp (
+      rw (a .before .before .ends-mip .ensures, a .before .loses-note .ensures, e) at (a .if1 .left),
+      rw e at (sym (q .before .is-quiet .ensures) ∙ q .if2 .left),
+      c .raise .ensures,
+      q .before .before .one-more .ensures,
+      e,
+    )
 
 pub play-event-spec : {M : Type 1} → statement M
 play-event-spec =

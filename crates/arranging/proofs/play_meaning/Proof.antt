@@ -12,4 +12,5 @@ returns-2 c = simp (c .before .enum-told .given .1, c .stop .ensures)
 
 pub play-meaning-spec : {M : Type 1} → statement M
 play-meaning-spec =
-    tie.close (tie.spec (λ c. search needs) (λ c κs. search needs) (λ c. search needs) (λ c κs. search needs) returns returns-2)
+    tie.close (tie.spec (λ c. search needs) (λ c κs. search needs)
+    (λ c. search needs) (λ c κs. search needs) returns returns-2)

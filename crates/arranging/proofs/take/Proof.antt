@@ -29,15 +29,19 @@ loop-again c =
     let part = x .before .before .before .before .args .part .now in
     let t = c .before .before in (
       omega arith,
-      heard-line part (l .i) (omega arith) (l .s) (l .l) _ _ (t .if1 .taken) (c .before .play-line .ensures ∙ ap (λ (m : Line). linePlayed (l .s) (textOf m)) (t .before .push .ensures)) (c .new .ensures) ∙ l .inv .1,
+      heard-line part (l .i) (omega arith) (l .s) (l .l) _ _ (t .if1 .taken)
+          (c .before .play-line .ensures ∙ ap (λ (m : Line). linePlayed (l .s) (textOf m)) (t .before .push .ensures))
+          (c .new .ensures) ∙ l .inv .1,
     )
 
 loop-again-2 : tie.Need-loop-again-2 Inv-loop μ-loop
 loop-again-2 c =
     let x = c .before .before .before .before in
     let l = x .loop in
-    let part = x .before .before .before .before .args .part .now in
-    (omega arith, heard-byte part (l .i) (omega arith) (l .s) (l .l) _ (c .if1 .left) (c .before .push .ensures) ∙ l .inv .1)
+    let part = x .before .before .before .before .args .part .now in (
+      omega arith,
+      heard-byte part (l .i) (omega arith) (l .s) (l .l) _ (c .if1 .left) (c .before .push .ensures) ∙ l .inv .1,
+    )
 
 returns : tie.Need-returns Inv-loop μ-loop
 returns c =

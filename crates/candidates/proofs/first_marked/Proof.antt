@@ -22,7 +22,8 @@ abbrev has-mark : List ℕ → ℕ → Bool
 has-mark marks g = not (eqb (getD marks g 0) 0)
 
 abbrev Inv-loop : tie.InvT-loop
-Inv-loop marks numbers n i₀ i = (i ≤ n) × (n ≤ 64) × (length numbers ≡ 64) × (firstOf (has-mark marks) (drop i (take n numbers)) ≡ firstOf (has-mark marks) (take n numbers))
+Inv-loop marks numbers n i₀ i = (i ≤ n) × (n ≤ 64) × (length numbers ≡ 64)
+    × (firstOf (has-mark marks) (drop i (take n numbers)) ≡ firstOf (has-mark marks) (take n numbers))
 
 abbrev μ-loop : tie.MeasureT-loop
 μ-loop marks numbers n i₀ i = n - i
@@ -42,15 +43,21 @@ returns c =
     let m = b .before .at-most in
     let t = rw (c .before .place .ensures .0) at (ap not (ne-eqb _ _ (c .if1 .taken))) in
     rw (← (take-at-most 64 (a .order .count) (a .order .generator) (b .loop .inv .2)), ← (m .ensures .0))
-    (ap found (part-yes (has-mark (a .t2)) 0 (a .order .generator) (m .result) (omega arith) (b .loop .i) _ (omega arith) (b .loop .inv .3) t))
+    (ap found (part-yes (has-mark (a .t2)) 0 (a .order .generator) (m .result)
+    (omega arith) (b .loop .i) _ (omega arith) (b .loop .inv .3) t))
 
 loop-again : tie.Need-loop-again Inv-loop μ-loop
 loop-again c =
     let b = c .before .before .before in
     let a = b .before .before .before .args in
     let m = b .before .at-most in
-    let t = rw (c .before .place .ensures .0) at (ap not (eq-eqb _ _ (c .if1 .left))) in
-    (omega arith, b .loop .inv .1, b .loop .inv .2, part-no (has-mark (a .t2)) 0 (a .order .generator) (m .result) (omega arith) (b .loop .i) _ (omega arith) (b .loop .inv .3) t)
+    let t = rw (c .before .place .ensures .0) at (ap not (eq-eqb _ _ (c .if1 .left))) in (
+      omega arith,
+      b .loop .inv .1,
+      b .loop .inv .2,
+      part-no (has-mark (a .t2)) 0 (a .order .generator) (m .result)
+          (omega arith) (b .loop .i) _ (omega arith) (b .loop .inv .3) t,
+    )
 
 returns-2 : tie.Need-returns-2 Inv-loop μ-loop
 returns-2 c =
@@ -58,7 +65,8 @@ returns-2 c =
     let a = b .before .before .before .args in
     let m = b .before .at-most in
     rw (← (take-at-most 64 (a .order .count) (a .order .generator) (b .loop .inv .2)), ← (m .ensures .0))
-    (ap found (part-end (has-mark (a .t2)) 0 (a .order .generator) (m .result) (omega arith) (b .loop .i) _ (omega arith) (b .loop .inv .3)))
+    (ap found (part-end (has-mark (a .t2)) 0 (a .order .generator) (m .result)
+    (omega arith) (b .loop .i) _ (omega arith) (b .loop .inv .3)))
 
 pub first-marked-spec : {M : Type 1} → statement M
 first-marked-spec =

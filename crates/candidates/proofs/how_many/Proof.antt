@@ -25,8 +25,11 @@ loop-again : tie.Need-loop-again Inv-loop μ-loop
 loop-again c =
     let l = c .before .before .before .loop in
     let a = c .before .before .before .before .args in
-    let x = c .one .ensures .0 ∙ ap bit (c .before .is-wanted .ensures) in
-    (omega arith, omega (arith, c .one .ensures .1), total-next (λ (g : ℕ). bit (wantedAt (a .want) (a .t1) (a .t2) g)) (l .i) (l .n) _ (l .inv .2) x)
+    let x = c .one .ensures .0 ∙ ap bit (c .before .is-wanted .ensures) in (
+      omega arith,
+      omega (arith, c .one .ensures .1),
+      total-next (λ (g : ℕ). bit (wantedAt (a .want) (a .t1) (a .t2) g)) (l .i) (l .n) _ (l .inv .2) x,
+    )
 
 returns : tie.Need-returns Inv-loop μ-loop
 returns c =

@@ -20,7 +20,8 @@ abbrev idleIn : List ℕ → ℕ → Bool
 idleIn state g = eqb (getD state g 0) 0
 
 abbrev Inv-loop : tie.InvT-loop
-Inv-loop p state n g₀ g = (g ≤ n) × (n ≤ 64) × (firstOf (idleIn state) (drop g (numbers n)) ≡ firstOf (idleIn state) (numbers n))
+Inv-loop p state n g₀ g =
+    (g ≤ n) × (n ≤ 64) × (firstOf (idleIn state) (drop g (numbers n)) ≡ firstOf (idleIn state) (numbers n))
 
 abbrev μ-loop : tie.MeasureT-loop
 μ-loop p state n g₀ g = n - g
@@ -34,13 +35,18 @@ returns c =
     let b = c .before .before in
     let st = b .before .before .before .args .generators .state in
     let m = b .before .at-most in
-    rw (← (m .ensures .0)) (ap found (number-yes (idleIn st) (m .result) (b .loop .g) _ (c .before .loop-test .taken) (b .loop .inv .2) (eq-eqb _ _ (c .if1 .taken))))
+    rw (← (m .ensures .0)) (ap found (number-yes (idleIn st) (m .result) (b .loop .g) _
+    (c .before .loop-test .taken) (b .loop .inv .2) (eq-eqb _ _ (c .if1 .taken))))
 
 loop-again : tie.Need-loop-again Inv-loop μ-loop
 loop-again c =
     let b = c .before .before in
-    let st = b .before .before .before .args .generators .state in
-    (omega arith, b .loop .inv .1, number-no (idleIn st) (b .before .at-most .result) (b .loop .g) _ (c .before .loop-test .taken) (b .loop .inv .2) (ne-eqb _ _ (c .if1 .left)))
+    let st = b .before .before .before .args .generators .state in (
+      omega arith,
+      b .loop .inv .1,
+      number-no (idleIn st) (b .before .at-most .result) (b .loop .g) _
+          (c .before .loop-test .taken) (b .loop .inv .2) (ne-eqb _ _ (c .if1 .left)),
+    )
 
 returns-2 : tie.Need-returns-2 Inv-loop μ-loop
 unfolding lowestIdle
@@ -48,7 +54,8 @@ returns-2 c =
     let b = c .before in
     let st = b .before .before .before .args .generators .state in
     let m = b .before .at-most in
-    rw (← (m .ensures .0)) (ap found (number-end (idleIn st) (m .result) (b .loop .g) _ (c .loop-test .left) (b .loop .inv .2)))
+    rw (← (m .ensures .0))
+    (ap found (number-end (idleIn st) (m .result) (b .loop .g) _ (c .loop-test .left) (b .loop .inv .2)))
 
 pub lowest-idle-spec : {M : Type 1} → statement M
 lowest-idle-spec =

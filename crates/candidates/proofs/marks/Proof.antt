@@ -16,7 +16,8 @@ use Rattle.candidates.proofs.marks.Statement.{statement}
 use Rattle.candidates.proofs.marks.Tie as tie
 
 abbrev Inv-loop : tie.InvT-loop
-Inv-loop want state channel out₀ i₀ out i = (i ≤ 64) × (length state ≡ 64) × (out ≡ upTo (λ g. bit (wantedAt want state channel g)) i ++ drop i (replicate 256 0))
+Inv-loop want state channel out₀ i₀ out i = (i ≤ 64) × (length state ≡ 64)
+    × (out ≡ upTo (λ g. bit (wantedAt want state channel g)) i ++ drop i (replicate 256 0))
 
 abbrev μ-loop : tie.MeasureT-loop
 μ-loop want state channel out₀ i₀ out i = 64 - i
@@ -29,15 +30,20 @@ loop-again : tie.Need-loop-again Inv-loop μ-loop
 loop-again c =
     let l = c .before .before .before .loop in
     let a = c .before .before .before .before .args in
-    let x = c .one .ensures .0 ∙ ap bit (c .before .is-wanted .ensures) in
-    (omega arith, l .inv .1, fill-next (λ (g : ℕ). bit (wantedAt (a .want) (a .t1) (a .t2) g)) 0 (replicate 256 0) (l .out) (l .i) _ (room (l .i) (omega arith)) (l .inv .2) x)
+    let x = c .one .ensures .0 ∙ ap bit (c .before .is-wanted .ensures) in (
+      omega arith,
+      l .inv .1,
+      fill-next (λ (g : ℕ). bit (wantedAt (a .want) (a .t1) (a .t2) g)) 0
+          (replicate 256 0) (l .out) (l .i) _ (room (l .i) (omega arith)) (l .inv .2) x,
+    )
 
 returns : tie.Need-returns Inv-loop μ-loop
 returns c =
     let l = c .before .loop in
     let a = c .before .before .args in
     let e : l .i ≡ 64 = omega arith in
-    marks-end (wantedAt (a .want) (a .t1) (a .t2)) 64 (wanted-none (a .want) (a .t1) (a .t2) (l .inv .1)) 192 refl (l .out) (rw e at (l .inv .2))
+    marks-end (wantedAt (a .want) (a .t1) (a .t2)) 64
+    (wanted-none (a .want) (a .t1) (a .t2) (l .inv .1)) 192 refl (l .out) (rw e at (l .inv .2))
 
 pub marks-spec : {M : Type 1} → statement M
 marks-spec =

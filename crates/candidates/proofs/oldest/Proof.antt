@@ -16,7 +16,8 @@ returns c =
     let b = c .before .before .before .before in
     let s = b .args .generators in
     let z = sym (c .before .how-many .ensures .0) ∙ c .if1 .taken in
-    sym (ap found (found-none (b .args .want) (s .state) (s .channel) (s .key) (state-64 s (b .good .0)) z (oldestFirst (s .ages))))
+    sym (ap found (found-none (b .args .want) (s .state) (s .channel) (s .key)
+    (state-64 s (b .good .0)) z (oldestFirst (s .ages))))
 
 returns-2 : tie.Need-returns-2
 unfolding oldest
@@ -24,7 +25,8 @@ returns-2 c =
     let b = c .before .before .before .before .before .before .before in
     let s = b .args .generators in
     c .first-marked .ensures
-    ∙ ap found (found-marked (b .args .want) (s .state) (s .channel) (s .key) (state-64 s (b .good .0)) _ (c .before .marks .ensures) (oldestFirst (s .ages)))
+    ∙ ap found (found-marked (b .args .want) (s .state) (s .channel) (s .key)
+    (state-64 s (b .good .0)) _ (c .before .marks .ensures) (oldestFirst (s .ages)))
 
 pub oldest-spec : {M : Type 1} → statement M
 oldest-spec =

@@ -27,7 +27,8 @@ returns c =
     let b = c .before .before .before .before in
     let k = b .before .args .key in
     let h : b .loop .i < length rows = omega arith in
-    of-row k _ (omega arith) (first-yes (isKey k) none-row rows (b .loop .i) _ h (b .loop .inv .1) (eq-eqb _ _ (c .if1 .taken)))
+    of-row k _ (omega arith)
+    (first-yes (isKey k) none-row rows (b .loop .i) _ h (b .loop .inv .1) (eq-eqb _ _ (c .if1 .taken)))
 
 loop-again : tie.Need-loop-again Inv-loop μ-loop
 loop-again c =

@@ -10,7 +10,12 @@ returns : tie.Need-returns
 unfolding mipTaken
 returns c =
     let b = c .before .before .before .before .before in
-    simp (c .new .ensures, c .before .new-table .ensures, sym (b .judge .ensures), c .before .before .enum-told .given .1)
+    simp (
+      c .new .ensures,
+      c .before .new-table .ensures,
+      sym (b .judge .ensures),
+      c .before .before .enum-told .given .1,
+    )
 
 returns-2 : tie.Need-returns-2
 unfolding mipTaken

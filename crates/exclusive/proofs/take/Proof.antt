@@ -12,11 +12,16 @@ returns c = simp (sym (c .before .before .before .kind-of .ensures) ∙ c .befor
 
 returns-2 : tie.Need-returns-2
 unfolding exclusive
-returns-2 c = simp (sym (c .before .before .before .before .kind-of .ensures) ∙ c .before .before .enum-told2 .given .1, c .new .ensures, c .before .fresh .ensures)
+returns-2 c = simp (
+  sym (c .before .before .before .before .kind-of .ensures) ∙ c .before .before .enum-told2 .given .1,
+  c .new .ensures,
+  c .before .fresh .ensures,
+)
 
 returns-3 : tie.Need-returns-3
 unfolding exclusive
-returns-3 c = simp (sym (c .before .before .before .kind-of .ensures) ∙ c .before .enum-told3 .given .1, c .new2 .ensures)
+returns-3 c =
+    simp (sym (c .before .before .before .kind-of .ensures) ∙ c .before .enum-told3 .given .1, c .new2 .ensures)
 
 pub take-spec : {M : Type 1} → statement M
 take-spec =

@@ -26,22 +26,27 @@ loop-holds : tie.Need-loop-holds Inv-loop μ-loop
 loop-holds c = refl
 
 shared-slice-read-next : tie.Need-shared-slice-read-next Inv-loop μ-loop
-shared-slice-read-next c = left (c .before .before .loop .i) (length (c .before .before .before .before .before .before .args .bytes .now)) (c .before .before .loop .failed) (c .before .loop-test .taken)
+shared-slice-read-next c =
+    left (c .before .before .loop .i) (length (c .before .before .before .before .before .before .args .bytes .now))
+    (c .before .before .loop .failed) (c .before .loop-test .taken)
 
 add-i : tie.Need-add-i Inv-loop μ-loop
 add-i c =
     let b = c .before .before .before .before .before .before .before .before in
-    let h = left (b .before .loop .i) (length (b .before .before .before .before .before .args .bytes .now)) (b .before .loop .failed) (b .loop-test .taken) in
+    let h = left (b .before .loop .i) (length (b .before .before .before .before .before .args .bytes .now))
+    (b .before .loop .failed) (b .loop-test .taken) in
     search needs
 
 loop-less : tie.Need-loop-less Inv-loop μ-loop
 loop-less c =
     let b = c .before .before .before .before .before .before .before .before in
-    let h = left (b .before .loop .i) (length (b .before .before .before .before .before .args .bytes .now)) (b .before .loop .failed) (b .loop-test .taken) in
+    let h = left (b .before .loop .i) (length (b .before .before .before .before .before .args .bytes .now))
+    (b .before .loop .failed) (b .loop-test .taken) in
     omega arith
 
 loop-again : tie.Need-loop-again Inv-loop μ-loop
-loop-again c = c .before .before .before .answer .kept .0 ∙ c .before .before .before .before .before .before .before .before .before .loop .inv
+loop-again c = c .before .before .before .answer .kept .0
+    ∙ c .before .before .before .before .before .before .before .before .before .loop .inv
 
 same-length : tie.Need-same-length Inv-loop μ-loop
 same-length c = c .before .loop .inv

@@ -15,10 +15,13 @@ with-weight e v n w x h = subst (λ (m : ℕ). Near e v m x) h
 returns : tie.Need-returns
 returns c =
     let left = c .before .before .before .weight-at .ensures .0 in
-    let right = c .before .before .weight-at2 .ensures .0 in
-    (with-weight _ _ _ _ (c .before .gain .result) left (c .before .gain .ensures), with-weight _ _ _ _ (c .gain2 .result) right (c .gain2 .ensures))
+    let right = c .before .before .weight-at2 .ensures .0 in (
+      with-weight _ _ _ _ (c .before .gain .result) left (c .before .gain .ensures),
+      with-weight _ _ _ _ (c .gain2 .result) right (c .gain2 .ensures),
+    )
 
 pub gains-at-spec : {M : Type 1} → statement M
 gains-at-spec =
     tie.close
-    (tie.spec (λ c. search needs) (λ c κs. search needs) (λ c κs. search needs) (λ c κs. search needs) (λ c κs. search needs) returns)
+    (tie.spec (λ c. search needs) (λ c κs. search needs) (λ c κs. search needs)
+    (λ c κs. search needs) (λ c κs. search needs) returns)

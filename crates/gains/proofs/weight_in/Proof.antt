@@ -16,7 +16,8 @@ told : (s r j : ℕ) → r ≡ s → j < 16 → 16 * r + j < 127 → getD (row s
 told s r j e l h = subst (λ (x : ℕ). getD (row x) j 0 ≡ weight (16 * r + j)) e (in-row r j l h)
 
 -- the last row is what the other seven leave
-last : (s j : ℕ) → 16 * s + j < 127 → (s ≡ 0 → ⊥) → (s ≡ 1 → ⊥) → (s ≡ 2 → ⊥) → (s ≡ 3 → ⊥) → (s ≡ 4 → ⊥) → (s ≡ 5 → ⊥) → (s ≡ 6 → ⊥) → s ≡ 7
+last : (s j : ℕ) → 16 * s + j < 127 → (s ≡ 0 → ⊥) → (s ≡ 1 → ⊥)
+    → (s ≡ 2 → ⊥) → (s ≡ 3 → ⊥) → (s ≡ 4 → ⊥) → (s ≡ 5 → ⊥) → (s ≡ 6 → ⊥) → s ≡ 7
 last s j h a b c d e f g =
     let l = past 6 s (past 5 s (past 4 s (past 3 s (past 2 s (past 1 s (past 0 s (omega arith) a) b) c) d) e) f) g in
     omega (arith, h, l)
@@ -26,7 +27,8 @@ array-read-result-8 c =
     let a = c .before .args in
     let r = c .match .rest in
     let h : 16 * a .row + a .at < 127 = search needs in
-    let l = last (a .row) (a .at) h (r .0 .0 .0 .0 .0 .0 .1) (r .0 .0 .0 .0 .0 .1) (r .0 .0 .0 .0 .1) (r .0 .0 .0 .1) (r .0 .0 .1) (r .0 .1) (r .1) in
+    let l = last (a .row) (a .at) h (r .0 .0 .0 .0 .0 .0 .1) (r .0 .0 .0 .0 .0 .1)
+    (r .0 .0 .0 .0 .1) (r .0 .0 .0 .1) (r .0 .0 .1) (r .0 .1) (r .1) in
     omega (arith, h, l)
 
 returns : tie.Need-returns
@@ -55,7 +57,8 @@ returns-8 c =
     let a = c .before .args in
     let r = c .match .rest in
     let h : 16 * a .row + a .at < 127 = search needs in
-    told 7 (a .row) (a .at) (last (a .row) (a .at) h (r .0 .0 .0 .0 .0 .0 .1) (r .0 .0 .0 .0 .0 .1) (r .0 .0 .0 .0 .1) (r .0 .0 .0 .1) (r .0 .0 .1) (r .0 .1) (r .1)) (search needs) h
+    told 7 (a .row) (a .at) (last (a .row) (a .at) h (r .0 .0 .0 .0 .0 .0 .1) (r .0 .0 .0 .0 .0 .1)
+    (r .0 .0 .0 .0 .1) (r .0 .0 .0 .1) (r .0 .0 .1) (r .0 .1) (r .1)) (search needs) h
 
 pub weight-in-spec : {M : Type 1} → statement M
 weight-in-spec =

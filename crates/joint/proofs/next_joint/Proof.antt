@@ -22,7 +22,8 @@ returns-2 c =
     let s = c .before .before .before in
     let a = s .args in
     let z = s .good .0 .1 .0 .1 in
-    let e = joint-more (a .t1) (a .s) (a .k) (omega arith) (sym (c .before .before .stands .ensures) ∙ c .before .if1 .left) in
+    let e = joint-more (a .t1) (a .s) (a .k) (omega arith)
+    (sym (c .before .before .stands .ensures) ∙ c .before .if1 .left) in
     let f = busy-64 (take (a .k + 1) (a .t1)) (a .s) in
     (omega arith, omega arith)
 

@@ -24,13 +24,17 @@ returns : tie.Need-returns Inv-loop μ-loop
 returns c =
     let l = c .before .before .loop in
     let a = c .before .before .before .args in
-    among-here (a .t1) (a .n) (l .i) (a .c) _ (c .before .loop-test .taken) (omega arith) (l .inv .1) (eq-eqb _ _ (c .if1 .taken))
+    among-here (a .t1) (a .n) (l .i) (a .c) _ (c .before .loop-test .taken)
+    (omega arith) (l .inv .1) (eq-eqb _ _ (c .if1 .taken))
 
 loop-again : tie.Need-loop-again Inv-loop μ-loop
 loop-again c =
     let l = c .before .before .loop in
-    let a = c .before .before .before .args in
-    (l .inv .0, among-next (a .t1) (a .n) (l .i) (a .c) _ (c .before .loop-test .taken) (omega arith) (l .inv .1) (ne-eqb _ _ (c .if1 .left)))
+    let a = c .before .before .before .args in (
+      l .inv .0,
+      among-next (a .t1) (a .n) (l .i) (a .c) _ (c .before .loop-test .taken)
+          (omega arith) (l .inv .1) (ne-eqb _ _ (c .if1 .left)),
+    )
 
 returns-2 : tie.Need-returns-2 Inv-loop μ-loop
 returns-2 c =

@@ -8,7 +8,8 @@ use Rattle.lines.proofs.put_field.Tie as tie
 
 returns : tie.Need-returns
 unfolding field
-returns c = joined (c .before .before .before .before .before .before .put .ensures) (c .before .before .put-number .ensures)
+returns c =
+    joined (c .before .before .before .before .before .before .put .ensures) (c .before .before .put-number .ensures)
 
 pub put-field-spec : {M : Type 1} → statement M
 put-field-spec =

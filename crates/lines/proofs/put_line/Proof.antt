@@ -12,19 +12,30 @@ returns c = rw (c .enum-told .given .1) (nothing-put _ _)
 
 returns-2 : tie.Need-returns-2
 unfolding lineOf
-returns-2 c = rw (c .before .before .before .before .before .before .before .before .before .enum-told2 .given .1) (joined (c .before .before .before .before .before .before .before .put-offset .ensures) (c .before .before .put .ensures))
+returns-2 c = rw (c .before .before .before .before .before .before .before .before .before .enum-told2 .given .1)
+    (joined (c .before .before .before .before .before .before .before .put-offset .ensures)
+    (c .before .before .put .ensures))
 
 returns-3 : tie.Need-returns-3
 unfolding lineOf
-returns-3 c = rw (c .before .before .before .before .before .before .before .before .before .a .given .1) (joined (c .before .before .before .before .before .before .put-offset2 .ensures) (c .before .before .put-note .ensures))
+returns-3 c = rw (c .before .before .before .before .before .before .before .before .before .a .given .1)
+    (joined (c .before .before .before .before .before .before .put-offset2 .ensures)
+    (c .before .before .put-note .ensures))
 
 returns-4 : tie.Need-returns-4
 unfolding lineOf
-returns-4 c = rw (c .before .before .before .before .before .before .before .before .before .a2 .given .1) (joined (c .before .before .before .before .before .before .put-offset3 .ensures) (c .before .before .put-no-note .ensures))
+returns-4 c = rw (c .before .before .before .before .before .before .before .before .before .a2 .given .1)
+    (joined (c .before .before .before .before .before .before .put-offset3 .ensures)
+    (c .before .before .put-no-note .ensures))
 
 returns-5 : tie.Need-returns-5
 unfolding lineOf
-returns-5 c = rw (c .before .before .before .before .before .before .before .before .before .before .before .before .before .before .a3 .given .1) (joined (c .before .before .before .before .before .before .before .before .before .before .before .put-offset4 .ensures) (joined (c .before .before .before .before .before .before .before .put-field .ensures) (c .before .before .put2 .ensures)))
+returns-5 c = rw (c .before .before .before .before .before .before .before
+    .before .before .before .before .before .before .before .a3 .given .1)
+    (joined (c .before .before .before .before .before
+    .before .before .before .before .before .before .put-offset4 .ensures)
+    (joined (c .before .before .before .before .before .before .before .put-field .ensures)
+    (c .before .before .put2 .ensures)))
 
 pub put-line-spec : {M : Type 1} → statement M
 put-line-spec =

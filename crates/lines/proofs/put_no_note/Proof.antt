@@ -6,7 +6,11 @@ use Rattle.lines.proofs.put_no_note.Statement.{statement}
 use Rattle.lines.proofs.put_no_note.Tie as tie
 
 returns : tie.Need-returns
-returns c = joined (joined (joined (c .before .before .before .before .before .before .before .before .before .before .before .before .before .before .before .put-field .ensures) (c .before .before .before .before .before .before .before .before .before .before .before .put-field2 .ensures)) (c .before .before .before .before .before .before .before .put-field3 .ensures)) (c .before .before .put .ensures)
+returns c = joined (joined (joined
+    (c .before .before .before .before .before .before .before
+    .before .before .before .before .before .before .before .before .put-field .ensures)
+    (c .before .before .before .before .before .before .before .before .before .before .before .put-field2 .ensures))
+    (c .before .before .before .before .before .before .before .put-field3 .ensures)) (c .before .before .put .ensures)
 
 pub put-no-note-spec : {M : Type 1} → statement M
 put-no-note-spec =

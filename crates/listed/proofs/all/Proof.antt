@@ -14,7 +14,8 @@ use Rattle.listed.proofs.all.Tie as tie
 
 abbrev Inv-loop : tie.InvT-loop
 Inv-loop page₀ bytes k₀ used₀ i₀ page k used i =
-    (i ≤ length bytes) × (length page ≡ length page₀) × (k ≡ afterAll k₀ (take i bytes)) × Put page₀ 0 (listedBy k₀ (take i bytes)) used page
+    (i ≤ length bytes) × (length page ≡ length page₀) × (k ≡ afterAll k₀ (take i bytes))
+    × Put page₀ 0 (listedBy k₀ (take i bytes)) used page
 
 abbrev μ-loop : tie.MeasureT-loop
 μ-loop page₀ bytes k₀ used₀ i₀ page k used i = length bytes - i
@@ -27,7 +28,8 @@ loop-again : tie.Need-loop-again Inv-loop μ-loop
 loop-again c =
     let b = c .before .before .before .before .before .before .before .loop in
     let o = c .before .before .one in
-    let m = one-more _ _ _ _ (o .result) (c .before .before .before .before .before .before .loop-test .taken) (b .inv .2) (b .inv .3) (o .ensures) in
+    let m = one-more _ _ _ _ (o .result)
+    (c .before .before .before .before .before .before .loop-test .taken) (b .inv .2) (b .inv .3) (o .ensures) in
     (omega arith, o .kept .1 .0 ∙ b .inv .1, m .0, m .1)
 
 same-length : tie.Need-same-length Inv-loop μ-loop

@@ -15,7 +15,8 @@ returns c =
 
 returns-2 : tie.Need-returns-2
 unfolding endLine listedBy line
-returns-2 c = rw (c .before .before .before .before .before .before .awaits .given .1, append-nil) (c .before .before .list-start .ensures .put)
+returns-2 c = rw (c .before .before .before .before .before .before .awaits .given .1, append-nil)
+    (c .before .before .list-start .ensures .put)
 
 returns-3 : tie.Need-returns-3
 unfolding endLine listedBy

@@ -24,4 +24,5 @@ returns-4 c = rw (c .enum-told4 .given .1)
 pub is-refused-spec : {M : Type 1} → statement M
 is-refused-spec =
     tie.close
-    (tie.spec (λ c. search needs) (λ c. search needs) (λ c. search needs) (λ c. search needs) returns returns-2 returns-3 returns-4)
+    (tie.spec (λ c. search needs) (λ c. search needs) (λ c. search needs)
+    (λ c. search needs) returns returns-2 returns-3 returns-4)

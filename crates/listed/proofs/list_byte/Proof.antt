@@ -9,8 +9,12 @@ returns : tie.Need-returns
 unfolding midiLine afterMidi
 returns c =
     let d = c .before .before .before .before .before .before .before .byte in
-    record { kept = simp (c .next .ensures, d .ensures); put = rw (d .ensures) at (c .before .before .before .put-line .ensures) }
+    record {
+      kept = simp (c .next .ensures, d .ensures);
+      put = rw (d .ensures) at (c .before .before .before .put-line .ensures);
+    }
 
 pub list-byte-spec : {M : Type 1} → statement M
 list-byte-spec =
-    tie.close (tie.spec (λ c κs. search needs) (λ c κs. search needs) (λ c κs. search needs) (λ c. search needs) returns)
+    tie.close (tie.spec (λ c κs. search needs) (λ c κs. search needs)
+    (λ c κs. search needs) (λ c. search needs) returns)

@@ -13,11 +13,13 @@ returns c = rw (c .before .enum-told .given .1) (record { kept = refl; put = not
 
 returns-2 : tie.Need-returns-2
 unfolding line after
-returns-2 c = rw (c .before .before .before .before .before .before .awaits .given .1) (c .before .before .list-start .ensures)
+returns-2 c =
+    rw (c .before .before .before .before .before .before .awaits .given .1) (c .before .before .list-start .ensures)
 
 returns-3 : tie.Need-returns-3
 unfolding line after midiLine afterMidi
-returns-3 c = rw (c .before .before .before .before .before .enum-told2 .given .1) (c .before .before .list-byte .ensures)
+returns-3 c =
+    rw (c .before .before .before .before .before .enum-told2 .given .1) (c .before .before .list-byte .ensures)
 
 returns-4 : tie.Need-returns-4
 unfolding line after

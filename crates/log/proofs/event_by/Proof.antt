@@ -10,14 +10,20 @@ use Rattle.log.proofs.event_by.Statement.{statement}
 use Rattle.log.proofs.event_by.Tie as tie
 
 cast-t6 : tie.Need-cast-t6
-cast-t6 c = let h : c .before .args .v < 256 = ltb-true _ _ (and-right (eqb (c .before .args .k) 98) (ltb (c .before .args .v) 256) (c .if1 .taken)) in search needs
+cast-t6 c =
+    let h : c .before .args .v
+    < 256 = ltb-true _ _ (and-right (eqb (c .before .args .k) 98) (ltb (c .before .args .v) 256) (c .if1 .taken)) in
+    search needs
 
 returns : tie.Need-returns
 unfolding eventBy
 returns c = simp (c .if1 .taken)
 
 cast-t8 : tie.Need-cast-t8
-cast-t8 c = let h : c .before .before .args .v < 64 = ltb-true _ _ (and-right (eqb (c .before .before .args .k) 101) (ltb (c .before .before .args .v) 64) (c .if2 .taken)) in search needs
+cast-t8 c =
+    let h : c .before .before .args .v < 64 = ltb-true _ _
+    (and-right (eqb (c .before .before .args .k) 101) (ltb (c .before .before .args .v) 64) (c .if2 .taken)) in
+    search needs
 
 returns-2 : tie.Need-returns-2
 unfolding eventBy

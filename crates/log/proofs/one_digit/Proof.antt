@@ -10,7 +10,12 @@ returns : tie.Need-returns
 unfolding parse
 returns c =
     let t = c .before .before .before in
-    simp (rw (t .before .before .is-digit .ensures) at (sym (t .before .is-right .ensures) ∙ t .if1 .taken), c .event-by .ensures, c .before .wide .ensures, c .before .before .less .ensures)
+    simp (
+      rw (t .before .before .is-digit .ensures) at (sym (t .before .is-right .ensures) ∙ t .if1 .taken),
+      c .event-by .ensures,
+      c .before .wide .ensures,
+      c .before .before .less .ensures,
+    )
 
 returns-2 : tie.Need-returns-2
 unfolding parse

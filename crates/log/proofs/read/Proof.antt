@@ -34,7 +34,8 @@ returns-4 c =
     let s = c .before .before .before .before in
     let l = s .args .l in
     let size = bytes-7 l (s .good .0) in
-    ap meaningOf (sym (said-else (l .bytes) (l .count) size (c .before .before .if1 .left) (c .before .if2 .left) (c .if3 .left)))
+    ap meaningOf
+    (sym (said-else (l .bytes) (l .count) size (c .before .before .if1 .left) (c .before .if2 .left) (c .if3 .left)))
 
 pub read-spec : {M : Type 1} → statement M
 read-spec =

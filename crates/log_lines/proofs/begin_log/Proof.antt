@@ -22,14 +22,16 @@ looked c r n e f = rw (f, e)
 array-share-prefix-channels : tie.Need-array-share-prefix-channels
 array-share-prefix-channels c =
     let p = c .before .before in
-    let n = size (p .before .args .c) (p .put-away .result) (channels-16 (p .before .args .c) (p .before .good .0)) (p .put-away .ensures) in
+    let n = size (p .before .args .c) (p .put-away .result)
+    (channels-16 (p .before .args .c) (p .before .good .0)) (p .put-away .ensures) in
     let l = c .usable .ensures .1 in
     omega arith
 
 slice-aggregate-begin : tie.Need-slice-aggregate-begin
 slice-aggregate-begin c =
     let p = c .before .before .before in
-    let n = size (p .before .args .c) (p .put-away .result) (channels-16 (p .before .args .c) (p .before .good .0)) (p .put-away .ensures) in
+    let n = size (p .before .args .c) (p .put-away .result)
+    (channels-16 (p .before .args .c) (p .before .good .0)) (p .put-away .ensures) in
     let l = c .before .usable .ensures .1 in
     let k = length-take (c .before .usable .result) (p .put-away .result .channels) in
     omega arith
@@ -37,7 +39,10 @@ slice-aggregate-begin c =
 returns : tie.Need-returns
 returns c =
     let p = c .before .before .before .before in
-    c .begin .ensures ∙ ap begun (looked (p .before .args .c) (p .put-away .result) (c .before .before .usable .result) (p .put-away .ensures) (c .before .before .usable .ensures .0))
+    c .begin .ensures
+    ∙ ap begun (looked (p .before .args .c) (p .put-away .result) (c .before .before .usable .result)
+    (p .put-away .ensures) (c .before .before .usable .ensures .0))
 
 pub begin-log-spec : {M : Type 1} → statement M
-begin-log-spec = tie.close (tie.spec (λ c κs. search needs) (λ c κs. search needs) array-share-prefix-channels slice-aggregate-begin (λ c κs. search needs) returns)
+begin-log-spec = tie.close (tie.spec (λ c κs. search needs)
+    (λ c κs. search needs) array-share-prefix-channels slice-aggregate-begin (λ c κs. search needs) returns)

@@ -21,7 +21,8 @@ returns-2 c =
     let a = c .before .before .before .before .before .before .before .before .before in
     let n = bytes-38 (a .args .w) (a .good .1 .0) in
     let p = c .before .before .put .ensures in
-    rw (eq-eqb _ _ (c .before .before .before .before .before .before .if1 .left)) (p, λ h. stands-whole 38 _ (omega arith) _ p h)
+    rw (eq-eqb _ _ (c .before .before .before .before .before .before .if1 .left))
+    (p, λ h. stands-whole 38 _ (omega arith) _ p h)
 
 pub put-message-spec : {M : Type 1} → statement M
 put-message-spec = tie.close (tie.spec returns (λ c. search needs) (λ c κs. search needs) (λ c. search needs) returns-2)

@@ -19,8 +19,12 @@ returns c =
     let n = a .before .before .before .before .before in
     let x = n .before .before .before .before in
     let k = n .before .struct-known .given in
-    let w = joined (joined (joined (n .put-number .ensures) (joined (a .put .ensures) (b .put-number2 .ensures))) (joined (d .put2 .ensures) (e .put-bytes .ensures))) (f .put3 .ensures) in
-    (w, λ h. stands-behind 139 _ (line-length (x .args .w) (k .1 .0 .fits) (k .0 .fits) (bytes-38 (x .args .w) (x .good .1 .1 .0))) _ _ w h)
+    let w = joined (joined (joined (n .put-number .ensures) (joined (a .put .ensures) (b .put-number2 .ensures)))
+    (joined (d .put2 .ensures) (e .put-bytes .ensures))) (f .put3 .ensures) in (
+      w,
+      λ h. stands-behind 139 _
+          (line-length (x .args .w) (k .1 .0 .fits) (k .0 .fits) (bytes-38 (x .args .w) (x .good .1 .1 .0))) _ _ w h,
+    )
 
 pub put-written-spec : {M : Type 1} → statement M
 put-written-spec =

@@ -38,8 +38,10 @@ loop-again c =
     let l = c .before .before .before .loop in
     let before = c .before .before .before .before .before .unmasked .result in
     let after = c .before .before .before .before .unmasked2 .result in
-    let x = rw (c .before .is-channel .ensures) at (c .one .ensures .0) in
-    (omega arith, fill-next (rule before after) 0 (replicate 256 0) (l .out) (l .i) _ (room (l .i) (omega arith)) (l .inv .1) x)
+    let x = rw (c .before .is-channel .ensures) at (c .one .ensures .0) in (
+      omega arith,
+      fill-next (rule before after) 0 (replicate 256 0) (l .out) (l .i) _ (room (l .i) (omega arith)) (l .inv .1) x,
+    )
 
 returns : tie.Need-returns Inv-loop μ-loop
 returns c =
@@ -48,8 +50,11 @@ returns c =
     let before = c .before .before .before .unmasked in
     let after = c .before .before .unmasked2 in
     let e : l .i ≡ 17 = omega arith in
-    let same : (k : ℕ) → k < 17 → rule (before .result) (after .result) k ≡ bit (isNewlyMasked (a .polyphony) (a .old) (a .new) k) = λ k h. rw (before .ensures k (omega arith), after .ensures k (omega arith)) in
-    marks-end (isNewlyMasked (a .polyphony) (a .old) (a .new)) 17 (no-channel (a .polyphony) (a .old) (a .new)) 239 refl (l .out)
+    let same : (k : ℕ) → k < 17
+    → rule (before .result) (after .result) k ≡ bit (isNewlyMasked (a .polyphony) (a .old) (a .new) k) =
+    λ k h. rw (before .ensures k (omega arith), after .ensures k (omega arith)) in
+    marks-end (isNewlyMasked (a .polyphony) (a .old) (a .new)) 17
+    (no-channel (a .polyphony) (a .old) (a .new)) 239 refl (l .out)
     ((rw e at (l .inv .1)) ∙ ap (λ (m : List ℕ). m ++ drop 17 (replicate 256 0)) (upTo-same _ _ 17 same))
 
 pub marks-spec : {M : Type 1} → statement M

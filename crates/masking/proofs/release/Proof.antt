@@ -18,10 +18,12 @@ use Rattle.masking.proofs.release.Tie as tie
 -- the state of generator g afterwards
 abbrev rule : List ℕ → List ℕ → List ℕ → ℕ → ℕ
 rule state channel marks g =
-    if isBusy (generator (getD state g 0) 0 0) && not (eqb (getD marks (getD channel g 0) 0) 0) then 3 else getD state g 0
+    if isBusy (generator (getD state g 0) 0 0) && not (eqb (getD marks (getD channel g 0) 0) 0) then 3
+    else getD state g 0
 
 abbrev Inv-loop : tie.InvT-loop
-Inv-loop state channel marks out₀ i₀ out i = (i ≤ 64) × (length out₀ ≡ 64) × (out ≡ upTo (rule state channel marks) i ++ drop i out₀)
+Inv-loop state channel marks out₀ i₀ out i =
+    (i ≤ 64) × (length out₀ ≡ 64) × (out ≡ upTo (rule state channel marks) i ++ drop i out₀)
 
 abbrev μ-loop : tie.MeasureT-loop
 μ-loop state channel marks out₀ i₀ out i = 64 - i
@@ -37,8 +39,11 @@ loop-again : tie.Need-loop-again Inv-loop μ-loop
 loop-again c =
     let l = c .before .before .before .before .loop in
     let a = c .before .before .before .before .before .args in
-    let x = rw (c .before .before .place .ensures .0, c .before .is-busy .ensures) at (c .if-else .ensures) in
-    (omega arith, l .inv .1, fill-next (rule (a .t1) (a .t2) (a .t3)) 0 (a .t1) (l .out) (l .i) _ (omega arith) (l .inv .2) x)
+    let x = rw (c .before .before .place .ensures .0, c .before .is-busy .ensures) at (c .if-else .ensures) in (
+      omega arith,
+      l .inv .1,
+      fill-next (rule (a .t1) (a .t2) (a .t3)) 0 (a .t1) (l .out) (l .i) _ (omega arith) (l .inv .2) x,
+    )
 
 returns : tie.Need-returns Inv-loop μ-loop
 returns c = let l = c .before .loop in fill-end _ _ _ _ 64 (omega arith) (omega arith) (l .inv .2)

@@ -16,7 +16,8 @@ use Rattle.masking.proofs.unmasked.Statement.{statement}
 use Rattle.masking.proofs.unmasked.Tie as tie
 
 abbrev Inv-loop : tie.InvT-loop
-Inv-loop p entries n out₀ i₀ out i = (i ≤ n) × (n ≤ 16) × (length entries ≡ 16) × (length out ≡ 256) × Marked-to p entries n i out
+Inv-loop p entries n out₀ i₀ out i =
+    (i ≤ n) × (n ≤ 16) × (length entries ≡ 16) × (length out ≡ 256) × Marked-to p entries n i out
 
 abbrev μ-loop : tie.MeasureT-loop
 μ-loop p entries n out₀ i₀ out i = 16 - i
@@ -25,7 +26,13 @@ cast-n : tie.Need-cast-n Inv-loop μ-loop
 cast-n c = omega arith
 
 loop-holds : tie.Need-loop-holds Inv-loop μ-loop
-loop-holds c = let s = c .before .before in (omega arith, omega arith, entries-16 (s .args .table) (s .good .0), refl, marked-none (s .args .polyphony) (s .args .table .entries) (c .at-most .result))
+loop-holds c = let s = c .before .before in (
+  omega arith,
+  omega arith,
+  entries-16 (s .args .table) (s .good .0),
+  refl,
+  marked-none (s .args .polyphony) (s .args .table .entries) (c .at-most .result),
+)
 
 mul-e : tie.Need-mul-e Inv-loop μ-loop
 mul-e c = omega arith
@@ -51,8 +58,15 @@ loop-again c =
     let n = b .before .at-most in
     let a = b .before .before .before .args in
     let k = c .before .before .place in
-    let s = length-set {A = ℕ} (b .loop .out) (k .result) (c .if-else .result) in
-    (omega arith, omega arith, b .loop .inv .2, s ∙ b .loop .inv .3, marked-next (a .polyphony) (a .table .entries) (n .result) (b .loop .i) (k .result) (c .if-else .result) (b .loop .out) (omega arith) (omega arith) (k .ensures .0) (omega arith) (c .if-else .ensures) (b .loop .inv .4))
+    let s = length-set {A = ℕ} (b .loop .out) (k .result) (c .if-else .result) in (
+      omega arith,
+      omega arith,
+      b .loop .inv .2,
+      s ∙ b .loop .inv .3,
+      marked-next (a .polyphony) (a .table .entries) (n .result) (b .loop .i) (k .result)
+          (c .if-else .result) (b .loop .out) (omega arith) (omega arith)
+          (k .ensures .0) (omega arith) (c .if-else .ensures) (b .loop .inv .4),
+    )
 
 returns : tie.Need-returns Inv-loop μ-loop
 unfolding shareOf
@@ -60,8 +74,10 @@ returns c =
     let b = c .before in
     let n = b .before .at-most in
     let a = b .before .before .before .args in
-    λ k h. marked-end (a .polyphony) (a .table .entries) (n .result) (b .loop .i) 0 (b .loop .out) (omega arith) (b .loop .inv .4) k h
-    ∙ ap (λ (l : List Entry). isMasked (lookup k (sharesFrom (a .polyphony) 0 l))) (all-entries (a .table) (n .result) (b .loop .inv .2) (n .ensures .0))
+    λ k h. marked-end (a .polyphony) (a .table .entries) (n .result)
+    (b .loop .i) 0 (b .loop .out) (omega arith) (b .loop .inv .4) k h
+    ∙ ap (λ (l : List Entry). isMasked (lookup k (sharesFrom (a .polyphony) 0 l)))
+    (all-entries (a .table) (n .result) (b .loop .inv .2) (n .ensures .0))
 
 pub unmasked-spec : {M : Type 1} → statement M
 unmasked-spec =

@@ -10,19 +10,22 @@ use Rattle.mip.proofs.judge.Tie as tie
 returns : tie.Need-returns
 returns c =
     let s = c .before .before in
-    c .refuse .ensures ∙ too-long (s .args .parser .count) (s .args .parser .bytes) (bytes-37 (s .args .parser) (s .good .0)) (c .before .if1 .taken)
+    c .refuse .ensures ∙ too-long (s .args .parser .count) (s .args .parser .bytes)
+    (bytes-37 (s .args .parser) (s .good .0)) (c .before .if1 .taken)
 
 returns-2 : tie.Need-returns-2
 returns-2 c =
     let s = c .before .before .before in
     c .refuse2 .ensures
-    ∙ none-or-odd (s .args .parser .count) (s .args .parser .bytes) (bytes-37 (s .args .parser) (s .good .0)) (c .before .before .if1 .left) (c .before .if2 .taken)
+    ∙ none-or-odd (s .args .parser .count) (s .args .parser .bytes)
+    (bytes-37 (s .args .parser) (s .good .0)) (c .before .before .if1 .left) (c .before .if2 .taken)
 
 returns-3 : tie.Need-returns-3
 returns-3 c =
     let s = c .before .before .before in
     c .judge-pairs .ensures
-    ∙ all-pairs (s .args .parser .count) (s .args .parser .bytes) (bytes-37 (s .args .parser) (s .good .0)) (c .before .before .if1 .left) (c .before .if2 .left)
+    ∙ all-pairs (s .args .parser .count) (s .args .parser .bytes)
+    (bytes-37 (s .args .parser) (s .good .0)) (c .before .before .if1 .left) (c .before .if2 .left)
 
 pub judge-spec : {M : Type 1} → statement M
 judge-spec =

@@ -19,8 +19,10 @@ use Rattle.mip.proofs.judge_pairs.Statement.{statement}
 use Rattle.mip.proofs.judge_pairs.Tie as tie
 
 abbrev Inv-loop : tie.InvT-loop
-Inv-loop bytes n t₀ before₀ listed₀ i₀ t before listed i = (n ≤ 36) × (i ≤ 36) × (length bytes ≡ 37) × (2 * t .count + 4 ≡ i) × (t ≡ tableOf (entriesOf t))
-    × (judgedBy (entriesOf t ++ pairs (drop i (take n bytes))) (faulty (entriesOf t) before (pairs (drop i (take n bytes)))) ≡ judgedPairs (pairs (drop 4 (take n bytes))))
+Inv-loop bytes n t₀ before₀ listed₀ i₀ t before listed i =
+    (n ≤ 36) × (i ≤ 36) × (length bytes ≡ 37) × (2 * t .count + 4 ≡ i) × (t ≡ tableOf (entriesOf t))
+    × (judgedBy (entriesOf t ++ pairs (drop i (take n bytes)))
+    (faulty (entriesOf t) before (pairs (drop i (take n bytes)))) ≡ judgedPairs (pairs (drop 4 (take n bytes))))
     × (length listed ≡ 256) × Marks (entriesOf t) listed
 
 abbrev μ-loop : tie.MeasureT-loop
@@ -53,7 +55,8 @@ returns c =
     let l = b .loop in
     let p = b .before .before .before .args .parser in
     c .refuse .ensures
-    ∙ not-a-channel (p .bytes) (p .count) (l .i) (l .before) (entriesOf (l .t)) _ (omega arith) (omega arith) (l .inv .5) (c .before .if1 .taken)
+    ∙ not-a-channel (p .bytes) (p .count) (l .i) (l .before) (entriesOf (l .t)) _
+    (omega arith) (omega arith) (l .inv .5) (c .before .if1 .taken)
 
 add-c : tie.Need-add-c Inv-loop μ-loop
 add-c c = omega arith
@@ -68,7 +71,9 @@ returns-2 c =
     let p = b .before .before .before .args .parser in
     c .refuse2 .ensures
     ∙ listed-twice (p .bytes) (p .count) (l .i) (l .before) (entriesOf (l .t)) _ (omega arith) (omega arith) (l .inv .5)
-    (c .before .before .before .if1 .left) (by-mark (entriesOf (l .t)) (l .listed) (c .before .before .place .result) _ false (l .inv .7) (c .before .before .place .ensures .1) (c .before .before .place .ensures .0) (ne-eqb _ _ (c .before .if2 .taken)))
+    (c .before .before .before .if1 .left)
+    (by-mark (entriesOf (l .t)) (l .listed) (c .before .before .place .result) _ false (l .inv .7)
+    (c .before .before .place .ensures .1) (c .before .before .place .ensures .0) (ne-eqb _ _ (c .before .if2 .taken)))
 
 returns-3 : tie.Need-returns-3 Inv-loop μ-loop
 returns-3 c =
@@ -77,7 +82,9 @@ returns-3 c =
     let p = b .before .before .before .args .parser in
     c .refuse3 .ensures
     ∙ value-falls (p .bytes) (p .count) (l .i) (l .before) (entriesOf (l .t)) _ (omega arith) (omega arith) (l .inv .5)
-    (c .before .before .before .before .if1 .left) (by-mark (entriesOf (l .t)) (l .listed) (c .before .before .before .place .result) _ true (l .inv .7) (c .before .before .before .place .ensures .1) (c .before .before .before .place .ensures .0) (eq-eqb _ _ (c .before .before .if2 .left))) (c .before .if3 .taken)
+    (c .before .before .before .before .if1 .left) (by-mark (entriesOf (l .t)) (l .listed)
+    (c .before .before .before .place .result) _ true (l .inv .7) (c .before .before .before .place .ensures .1)
+    (c .before .before .before .place .ensures .0) (eq-eqb _ _ (c .before .before .if2 .left))) (c .before .if3 .taken)
 
 array-write-listed : tie.Need-array-write-listed Inv-loop μ-loop
 array-write-listed c = c .before .before .before .place .ensures .1
@@ -94,11 +101,23 @@ loop-again c =
     let l = b .loop in
     let p = b .before .before .before .args .parser in
     let u = one-entry-more (l .t) (c .push .result) _ (l .inv .4) (omega arith) (c .push .ensures) in
-    let w = good-pair (p .bytes) (p .count) (l .i) (l .before) (entriesOf (l .t)) _ (omega arith) (omega arith) (l .inv .5)
-    (c .before .before .before .before .if1 .left) (by-mark (entriesOf (l .t)) (l .listed) (c .before .before .before .place .result) _ true (l .inv .7) (c .before .before .before .place .ensures .1) (c .before .before .before .place .ensures .0) (eq-eqb _ _ (c .before .before .if2 .left))) (c .before .if3 .left) _ (u .1) in
+    let w = good-pair (p .bytes) (p .count) (l .i) (l .before)
+    (entriesOf (l .t)) _ (omega arith) (omega arith) (l .inv .5)
+    (c .before .before .before .before .if1 .left) (by-mark (entriesOf (l .t)) (l .listed)
+    (c .before .before .before .place .result) _ true (l .inv .7) (c .before .before .before .place .ensures .1)
+    (c .before .before .before .place .ensures .0) (eq-eqb _ _ (c .before .before .if2 .left)))
+    (c .before .if3 .left) _ (u .1) in
     let k = c .before .before .before .place in
-    let s = length-set {A = ℕ} (l .listed) (k .result) 1 in
-    (omega arith, omega arith, l .inv .2, omega arith, u .2, w, s ∙ l .inv .6, mark-more (entriesOf (l .t)) _ (l .listed) (k .result) _ (omega arith) (k .ensures .0) (u .1) (l .inv .7))
+    let s = length-set {A = ℕ} (l .listed) (k .result) 1 in (
+      omega arith,
+      omega arith,
+      l .inv .2,
+      omega arith,
+      u .2,
+      w,
+      s ∙ l .inv .6,
+      mark-more (entriesOf (l .t)) _ (l .listed) (k .result) _ (omega arith) (k .ensures .0) (u .1) (l .inv .7),
+    )
 
 returns-4 : tie.Need-returns-4 Inv-loop μ-loop
 returns-4 c =

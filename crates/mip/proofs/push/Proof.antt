@@ -15,4 +15,5 @@ unfolding pushed
 returns-2 c = simp (lt-leb _ _ (c .before .if1 .left))
 
 pub push-spec : {M : Type 1} → statement M
-push-spec = tie.close (tie.spec returns (λ c. search needs) (λ c. search needs) (λ c. search needs) (λ c. search needs) returns-2)
+push-spec = tie.close (tie.spec returns (λ c. search needs)
+    (λ c. search needs) (λ c. search needs) (λ c. search needs) returns-2)

@@ -13,5 +13,6 @@ use Rattle.muntinorris.proofs.muntinorris_byte.Code as code
 pub muntinorris-byte-spec : {M : Type 1} → stated.statement M
 unfolding code.routine
 muntinorris-byte-spec 𝓤 H 𝓜 𝓖 𝓡 =
-    passed-on called-def.name (λ d n. taken d (Byte n)) 𝓤 H 𝓜 𝓖 𝓡 code.env #f (code.unfolded 𝓤 H 𝓜 𝓡) code.calls-numbers·answer-numbers
+    passed-on called-def.name (λ d n. taken d (Byte n)) 𝓤 H 𝓜 𝓖 𝓡 code.env #f
+    (code.unfolded 𝓤 H 𝓜 𝓡) code.calls-numbers·answer-numbers
     called-def.routine code.calls-driver·byte (called-thm.met 𝓤 H 𝓜 𝓖 𝓡)

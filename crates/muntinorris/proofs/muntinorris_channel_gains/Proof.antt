@@ -14,8 +14,16 @@ use Rattle.muntinorris.proofs.muntinorris_channel_gains.Statement as st
 use Rattle.muntinorris.proofs.muntinorris_channel_gains.Code as code
 
 abbrev asked : Asked
-asked = record { name = asked-def.name; of = record { kind = D.the-type; laws = D′.the-laws; plain = D′.the-plain; copies = D′.the-copy }; out = O.the-type; laws = O′.the-laws; plain = O′.the-plain; Told = λ c r. GainsToldOf c r }
+asked = record {
+  name = asked-def.name;
+  of = record { kind = D.the-type; laws = D′.the-laws; plain = D′.the-plain; copies = D′.the-copy };
+  out = O.the-type;
+  laws = O′.the-laws;
+  plain = O′.the-plain;
+  Told = λ c r. GainsToldOf c r;
+}
 
 pub muntinorris-channel-gains-spec : {M : Type 1} → stated.statement M
 unfolding code.routine
-muntinorris-channel-gains-spec 𝓤 H 𝓜 𝓖 𝓡 = copied asked 𝓤 H 𝓜 𝓖 𝓡 code.env #f (code.unfolded 𝓤 H 𝓜 𝓡) asked-def.routine code.calls-numbers·channel-gain-numbers (asked-thm.met 𝓤 H 𝓜 𝓖 𝓡)
+muntinorris-channel-gains-spec 𝓤 H 𝓜 𝓖 𝓡 = copied asked 𝓤 H 𝓜 𝓖 𝓡 code.env #f
+    (code.unfolded 𝓤 H 𝓜 𝓡) asked-def.routine code.calls-numbers·channel-gain-numbers (asked-thm.met 𝓤 H 𝓜 𝓖 𝓡)

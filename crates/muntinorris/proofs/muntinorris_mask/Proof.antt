@@ -13,8 +13,15 @@ use Rattle.muntinorris.proofs.muntinorris_mask.Statement as stated
 use Rattle.muntinorris.proofs.muntinorris_mask.Code as code
 
 abbrev query : Query
-query = record { name = query-def.name; out = O.the-type; laws = O′.the-laws; plain = O′.the-plain; answer = λ d n. maskNumbers (maskQuery d n) }
+query = record {
+  name = query-def.name;
+  out = O.the-type;
+  laws = O′.the-laws;
+  plain = O′.the-plain;
+  answer = λ d n. maskNumbers (maskQuery d n);
+}
 
 pub muntinorris-mask-spec : {M : Type 1} → stated.statement M
 unfolding code.routine
-muntinorris-mask-spec 𝓤 H 𝓜 𝓖 𝓡 = copied query 𝓤 H 𝓜 𝓖 𝓡 code.env #f (code.unfolded 𝓤 H 𝓜 𝓡) query-def.routine code.calls-numbers·mask-numbers (query-thm.met 𝓤 H 𝓜 𝓖 𝓡)
+muntinorris-mask-spec 𝓤 H 𝓜 𝓖 𝓡 = copied query 𝓤 H 𝓜 𝓖 𝓡 code.env #f
+    (code.unfolded 𝓤 H 𝓜 𝓡) query-def.routine code.calls-numbers·mask-numbers (query-thm.met 𝓤 H 𝓜 𝓖 𝓡)

@@ -13,8 +13,15 @@ use Rattle.muntinorris.proofs.muntinorris_share.Statement as stated
 use Rattle.muntinorris.proofs.muntinorris_share.Code as code
 
 abbrev query : Query
-query = record { name = query-def.name; out = O.the-type; laws = O′.the-laws; plain = O′.the-plain; answer = λ d n. shareNumbers (shareQuery d n) }
+query = record {
+  name = query-def.name;
+  out = O.the-type;
+  laws = O′.the-laws;
+  plain = O′.the-plain;
+  answer = λ d n. shareNumbers (shareQuery d n);
+}
 
 pub muntinorris-share-spec : {M : Type 1} → stated.statement M
 unfolding code.routine
-muntinorris-share-spec 𝓤 H 𝓜 𝓖 𝓡 = copied query 𝓤 H 𝓜 𝓖 𝓡 code.env #f (code.unfolded 𝓤 H 𝓜 𝓡) query-def.routine code.calls-numbers·share-numbers (query-thm.met 𝓤 H 𝓜 𝓖 𝓡)
+muntinorris-share-spec 𝓤 H 𝓜 𝓖 𝓡 = copied query 𝓤 H 𝓜 𝓖 𝓡 code.env #f
+    (code.unfolded 𝓤 H 𝓜 𝓡) query-def.routine code.calls-numbers·share-numbers (query-thm.met 𝓤 H 𝓜 𝓖 𝓡)

@@ -13,17 +13,20 @@ use Rattle.numbers.specs.Numbers.{GainsTold}
 use Rattle.numbers.proofs.gain_numbers.Statement.{statement}
 use Rattle.numbers.proofs.gain_numbers.Tie as tie
 
-given : (e v p : ℕ) (a : GainsAnswer) (g : Gains) → a ≡ GainsAre g → Answered e v p a → GainsTold e v p (record { left = g .left; right = g .right; number = 0 })
+given : (e v p : ℕ) (a : GainsAnswer) (g : Gains) → a ≡ GainsAre g → Answered e v p a
+    → GainsTold e v p (record { left = g .left; right = g .right; number = 0 })
 given e v p a g h t = let s = subst (Answered e v p) h t in (ap orZero (s .0), s .1)
 
-refused : (e v p : ℕ) (a : GainsAnswer) → a ≡ OutOfRange → Answered e v p a → GainsTold e v p (record { left = ofBits binary32 0; right = ofBits binary32 0; number = 24 })
+refused : (e v p : ℕ) (a : GainsAnswer) → a ≡ OutOfRange → Answered e v p a
+    → GainsTold e v p (record { left = ofBits binary32 0; right = ofBits binary32 0; number = 24 })
 refused e v p a h t = let s = subst (Answered e v p) h t in (ap orZero (s .0), s .1)
 
 returns : tie.Need-returns
 returns c =
     let b = c .before .before .before in
     let a = b .before .args in
-    given (a .expression) (a .volume) (a .pan) (b .gains-of .result) (c .before .g .given .0 .0) (c .before .g .given .1) (b .gains-of .ensures)
+    given (a .expression) (a .volume) (a .pan) (b .gains-of .result)
+    (c .before .g .given .0 .0) (c .before .g .given .1) (b .gains-of .ensures)
 
 returns-2 : tie.Need-returns-2
 returns-2 c =

@@ -17,4 +17,5 @@ returns-3 c = simp (sym (c .before .before .mask-query .ensures) ∙ c .enum-tol
 pub mask-numbers-spec : {M : Type 1} → statement M
 mask-numbers-spec =
     tie.close
-    (tie.spec (λ c κs. search needs) (λ c. search needs) (λ c. search needs) (λ c. search needs) returns returns-2 returns-3)
+    (tie.spec (λ c κs. search needs) (λ c. search needs)
+    (λ c. search needs) (λ c. search needs) returns returns-2 returns-3)

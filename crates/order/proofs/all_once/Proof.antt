@@ -26,13 +26,17 @@ returns : tie.Need-returns Inv-loop μ-loop
 returns c =
     let l = c .before .before .before .loop in
     let order = c .before .before .before .before .args .order in
-    each-false (λ j. eqb (times order (j + 1)) 1) 16 (l .i) (omega arith) (ne-eqb _ _ (λ e. c .if1 .taken (c .before .times .ensures ∙ e)))
+    each-false (λ j. eqb (times order (j + 1)) 1) 16 (l .i) (omega arith)
+    (ne-eqb _ _ (λ e. c .if1 .taken (c .before .times .ensures ∙ e)))
 
 loop-again : tie.Need-loop-again Inv-loop μ-loop
 loop-again c =
     let l = c .before .before .before .loop in
-    let order = c .before .before .before .before .args .order in
-    (omega arith, each-next (λ j. eqb (times order (j + 1)) 1) (l .i) (l .inv .1) (eq-eqb _ _ (sym (c .before .times .ensures) ∙ c .if1 .left)))
+    let order = c .before .before .before .before .args .order in (
+      omega arith,
+      each-next (λ j. eqb (times order (j + 1)) 1) (l .i) (l .inv .1)
+          (eq-eqb _ _ (sym (c .before .times .ensures) ∙ c .if1 .left)),
+    )
 
 returns-2 : tie.Need-returns-2 Inv-loop μ-loop
 returns-2 c =

@@ -31,7 +31,8 @@ returns : tie.Need-returns Inv-loop μ-loop
 returns c =
     let l = c .before .loop in
     let order = c .before .before .args .order .now in
-    fill-end (λ (j : ℕ). getD order j 0) _ (l .out) (l .i) 16 (omega arith) (omega arith) (l .inv .2) ∙ upTo-list (λ (j : ℕ). getD order j 0) 0 order 16 (c .before .before .pre) (λ j h. refl)
+    fill-end (λ (j : ℕ). getD order j 0) _ (l .out) (l .i) 16 (omega arith) (omega arith) (l .inv .2)
+    ∙ upTo-list (λ (j : ℕ). getD order j 0) 0 order 16 (c .before .before .pre) (λ j h. refl)
 
 pub copy-spec : {M : Type 1} → statement M
 copy-spec =

@@ -14,13 +14,21 @@ returns c = simp (ne-eqb _ _ (c .before .if1 .taken), c .none .ensures)
 returns-2 : tie.Need-returns-2
 unfolding orderOf isOrder
 returns-2 c =
-    simp (eq-eqb _ _ (c .before .before .before .if1 .left), rw (c .before .before .copy .ensures) at (sym (c .before .all-once .ensures) ∙ c .if2 .taken), c .before .before .copy .ensures)
+    simp (
+      eq-eqb _ _ (c .before .before .before .if1 .left),
+      rw (c .before .before .copy .ensures) at (sym (c .before .all-once .ensures) ∙ c .if2 .taken),
+      c .before .before .copy .ensures,
+    )
 
 returns-3 : tie.Need-returns-3
 unfolding orderOf isOrder
 returns-3 c =
     let a = c .before in
-    simp (eq-eqb _ _ (a .before .before .before .if1 .left), rw (a .before .before .copy .ensures) at (sym (a .before .all-once .ensures) ∙ a .if2 .left), c .none2 .ensures)
+    simp (
+      eq-eqb _ _ (a .before .before .before .if1 .left),
+      rw (a .before .before .copy .ensures) at (sym (a .before .all-once .ensures) ∙ a .if2 .left),
+      c .none2 .ensures,
+    )
 
 pub read-spec : {M : Type 1} → statement M
 read-spec =

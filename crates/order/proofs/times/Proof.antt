@@ -27,8 +27,12 @@ loop-again : tie.Need-loop-again Inv-loop μ-loop
 loop-again c =
     let l = c .before .before .loop in
     let a = c .before .before .before .args in
-    let b = c .one .ensures .1 in
-    (omega arith, l .inv .1, omega arith, times-next (a .t1) (a .c) (l .i) (l .n) _ (omega arith) (l .inv .3) (c .one .ensures .0))
+    let b = c .one .ensures .1 in (
+      omega arith,
+      l .inv .1,
+      omega arith,
+      times-next (a .t1) (a .c) (l .i) (l .n) _ (omega arith) (l .inv .3) (c .one .ensures .0),
+    )
 
 returns : tie.Need-returns Inv-loop μ-loop
 returns c =

@@ -9,7 +9,15 @@ returns : tie.Need-returns
 unfolding playControl
 returns c =
     let b = c .before .before .before .before in
-    simp (c .with-generators .ensures, c .before .with-channel .ensures, c .before .before .control .ensures, c .before .before .before .channel-of .ensures, b .notes-after .ensures, b .before .is-rhythm .ensures, b .before .before .pedal-down .ensures)
+    simp (
+      c .with-generators .ensures,
+      c .before .with-channel .ensures,
+      c .before .before .control .ensures,
+      c .before .before .before .channel-of .ensures,
+      b .notes-after .ensures,
+      b .before .is-rhythm .ensures,
+      b .before .before .pedal-down .ensures,
+    )
 
 pub control-spec : {M : Type 1} → statement M
 control-spec =

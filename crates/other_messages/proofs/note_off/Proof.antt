@@ -12,7 +12,12 @@ returns c = simp (sym (c .before .is-rhythm .ensures) ∙ c .if1 .taken)
 
 returns-2 : tie.Need-returns-2
 unfolding playNoteOff
-returns-2 c = simp (sym (c .before .before .before .before .is-rhythm .ensures) ∙ c .before .before .before .if1 .left, c .with-generators .ensures, c .before .apply .ensures, c .before .before .pedal-down .ensures)
+returns-2 c = simp (
+  sym (c .before .before .before .before .is-rhythm .ensures) ∙ c .before .before .before .if1 .left,
+  c .with-generators .ensures,
+  c .before .apply .ensures,
+  c .before .before .pedal-down .ensures,
+)
 
 pub note-off-spec : {M : Type 1} → statement M
 note-off-spec =

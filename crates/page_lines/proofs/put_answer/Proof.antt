@@ -25,7 +25,8 @@ returns-4 : tie.Need-returns-4
 unfolding answerText
 returns-4 c =
     let k = c .before .before .before .before .known-told .given in
-    rw (c .before .before .before .before .before .awaits .given .1) (c .before .before .put-refused .ensures, λ h. line-whole _ (k .0 .1) _ (c .before .before .put-refused .ensures) h)
+    rw (c .before .before .before .before .before .awaits .given .1)
+    (c .before .before .put-refused .ensures, λ h. line-whole _ (k .0 .1) _ (c .before .before .put-refused .ensures) h)
 
 pub put-answer-spec : {M : Type 1} → statement M
 put-answer-spec =

@@ -8,7 +8,8 @@ use Rattle.page_lines.proofs.put_refused.Tie as tie
 
 returns : tie.Need-returns
 unfolding numberLine
-returns c = joined (c .before .before .before .before .before .before .before .put-number .ensures) (c .before .before .put .ensures)
+returns c = joined (c .before .before .before .before .before .before .before .put-number .ensures)
+    (c .before .before .put .ensures)
 
 pub put-refused-spec : {M : Type 1} → statement M
 put-refused-spec =

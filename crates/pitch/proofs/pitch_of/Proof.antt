@@ -42,15 +42,21 @@ returns-2 c = simp (le-ltb _ _ (c .before .if1 .left), lt-ltb _ _ (c .if2 .taken
 
 returns-3 : tie.Need-returns-3
 unfolding pitchOf
-returns-3 c = simp (le-ltb _ _ (c .before .before .if1 .left), le-ltb _ _ (c .before .if2 .left), lt-ltb _ _ (c .if3 .taken))
+returns-3 c =
+    simp (le-ltb _ _ (c .before .before .if1 .left), le-ltb _ _ (c .before .if2 .left), lt-ltb _ _ (c .if3 .taken))
 
 returns-4 : tie.Need-returns-4
 unfolding pitchOf
 returns-4 c =
     let b = c .before .before in
     let n : b .raised .result < 2880 = b .raised .ensures .1 in
-    simp (le-ltb _ _ (b .before .before .before .if1 .left), le-ltb _ _ (b .before .before .if2 .left), le-ltb _ _ (b .before .if3 .left))
-    (made (c .before .octave .result) (c .entry-at .result) (b .raised .result) _ n (b .raised .ensures .0) (c .before .octave .ensures) (c .entry-at .ensures))
+    simp (
+      le-ltb _ _ (b .before .before .before .if1 .left),
+      le-ltb _ _ (b .before .before .if2 .left),
+      le-ltb _ _ (b .before .if3 .left),
+    )
+    (made (c .before .octave .result) (c .entry-at .result) (b .raised .result) _ n
+    (b .raised .ensures .0) (c .before .octave .ensures) (c .entry-at .ensures))
 
 pub pitch-of-spec : {M : Type 1} → statement M
 pitch-of-spec =

@@ -19,14 +19,20 @@ mul-result-2 c =
     record { fits = lt-of-le-of-lt k (lit< tt) }
 
 add-result-2 : tie.Need-add-result-2
-add-result-2 c = record { fits = lt-of-lt-of-le (raised-below (c .args .key) (16 * c .args .sensitivity) (c .args .bend) (search needs) (search needs) (search needs)) (lit≤ tt) }
+add-result-2 c = record {
+  fits = lt-of-lt-of-le (raised-below (c .args .key) (16 * c .args .sensitivity)
+      (c .args .bend) (search needs) (search needs) (search needs)) (lit≤ tt);
+}
 
 returns : tie.Need-returns
 returns c =
-    let a = c .args in
-    (position-of (a .key) (a .sensitivity) (a .bend) (search needs), raised-below (a .key) (16 * a .sensitivity) (a .bend) (search needs) (search needs) (search needs))
+    let a = c .args in (
+      position-of (a .key) (a .sensitivity) (a .bend) (search needs),
+      raised-below (a .key) (16 * a .sensitivity) (a .bend) (search needs) (search needs) (search needs),
+    )
 
 pub raised-spec : {M : Type 1} → statement M
 raised-spec =
     tie.close
-    (tie.spec (λ c. search needs) (λ c. search needs) (λ c. search needs) (λ c. search needs) mul-result-2 add-result-2 returns)
+    (tie.spec (λ c. search needs) (λ c. search needs) (λ c. search needs)
+    (λ c. search needs) mul-result-2 add-result-2 returns)

@@ -10,7 +10,8 @@ use Rattle.pitch_lines.proofs.one.Tie as tie
 
 returns : tie.Need-returns
 unfolding answerBy after
-returns c = rw (eq-eqb _ _ (c .before .before .before .before .before .before .if1 .taken)) (record { kept = c .begin .ensures; put = c .before .before .before .put-answer .ensures })
+returns c = rw (eq-eqb _ _ (c .before .before .before .before .before .before .if1 .taken))
+    (record { kept = c .begin .ensures; put = c .before .before .before .put-answer .ensures })
 
 returns-2 : tie.Need-returns-2
 unfolding answerBy after
@@ -19,4 +20,5 @@ returns-2 c = rw (ne-eqb _ _ (c .before .if1 .left)) (record { kept = c .read .e
 pub one-spec : {M : Type 1} → statement M
 one-spec =
     tie.close
-    (tie.spec (λ c κs. search needs) (λ c κs. search needs) (λ c. search needs) returns (λ c κs. search needs) returns-2)
+    (tie.spec (λ c κs. search needs) (λ c κs. search needs)
+    (λ c. search needs) returns (λ c κs. search needs) returns-2)

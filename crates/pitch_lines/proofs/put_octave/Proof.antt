@@ -53,17 +53,20 @@ plain (pos n) f t = record { n = n; is = refl; seen-is = toZ-ofZ {w = w8} {z = p
 plain (negsuc n) f t = absurd (subst T (rw (toZ-ofZ {w = w8} {z = negsuc n} f) at t) tt)
 
 sub-put-number : tie.Need-sub-put-number
-sub-put-number c = negative _ (c .before .before .before .before .before .before .before .before .fits .octave) (c .before .before .before .before .before .before .if1 .taken) .fits
+sub-put-number c = negative _ (c .before .before .before .before .before .before .before .before .fits .octave)
+    (c .before .before .before .before .before .before .if1 .taken) .fits
 
 cast-put-number : tie.Need-cast-put-number
 cast-put-number c =
-    let m = negative _ (c .before .before .before .before .before .before .before .before .fits .octave) (c .before .before .before .before .before .before .if1 .taken) in
+    let m = negative _ (c .before .before .before .before .before .before .before .before .fits .octave)
+    (c .before .before .before .before .before .before .if1 .taken) in
     let h = m .small in
     rw (m .rest-is) (tt, record { fits = omega arith })
 
 add-put-number : tie.Need-add-put-number
 add-put-number c =
-    let m = negative _ (c .before .before .before .before .before .before .before .before .fits .octave) (c .before .before .before .before .before .before .if1 .taken) in
+    let m = negative _ (c .before .before .before .before .before .before .before .before .fits .octave)
+    (c .before .before .before .before .before .before .if1 .taken) in
     let h = m .small in
     rw (m .rest-is) (record { fits = omega arith })
 
@@ -76,7 +79,8 @@ returns c =
 
 cast-put-number-2 : tie.Need-cast-put-number-2
 cast-put-number-2 c =
-    let m = plain _ (c .before .before .before .before .before .before .before .before .fits .octave) (c .before .before .before .before .before .before .if1 .left) in
+    let m = plain _ (c .before .before .before .before .before .before .before .before .fits .octave)
+    (c .before .before .before .before .before .before .if1 .left) in
     let h = m .small in
     rw (m .seen-is) (tt, record { fits = omega arith })
 

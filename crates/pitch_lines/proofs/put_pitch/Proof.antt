@@ -11,10 +11,14 @@ use Rattle.pitch_lines.proofs.put_pitch.Tie as tie
 returns : tie.Need-returns
 unfolding pitchFields
 returns c =
-    let b = c .before .before .before .before .before .before .before .before .before .before .before .before .before .before .before .before .before in
-    let back = toZ-ofZ {w = w8} {z = b .before .before .before .before .args .p .octave} (record { sfits = b .before .struct-told .given .0 .1 }) in
+    let b = c .before .before .before .before .before .before .before .before
+    .before .before .before .before .before .before .before .before .before in
+    let back = toZ-ofZ {w = w8} {z = b .before .before .before .before .args .p .octave}
+    (record { sfits = b .before .struct-told .given .0 .1 }) in
     joined
-    (joined (rw back at (b .put-octave .ensures)) (joined (c .before .before .before .before .before .before .before .before .before .before .before .before .put .ensures) (c .before .before .before .before .before .before .before .put-number .ensures)))
+    (joined (rw back at (b .put-octave .ensures)) (joined
+    (c .before .before .before .before .before .before .before .before .before .before .before .before .put .ensures)
+    (c .before .before .before .before .before .before .before .put-number .ensures)))
     (c .before .before .put2 .ensures)
 
 pub put-pitch-spec : {M : Type 1} → statement M

@@ -19,11 +19,23 @@ returns-3 c = simp (c .before .before .before .m3 .given .1, c .new2 .ensures, c
 
 returns-4 : tie.Need-returns-4
 unfolding played
-returns-4 c = simp (c .before .before .before .before .before .m4 .given .1, c .new3 .ensures, c .before .with-channel .ensures, c .before .before .program .ensures, c .before .before .before .channel-of .ensures)
+returns-4 c = simp (
+  c .before .before .before .before .before .m4 .given .1,
+  c .new3 .ensures,
+  c .before .with-channel .ensures,
+  c .before .before .program .ensures,
+  c .before .before .before .channel-of .ensures,
+)
 
 returns-5 : tie.Need-returns-5
 unfolding played
-returns-5 c = simp (c .before .before .before .before .before .m5 .given .1, c .new4 .ensures, c .before .with-channel2 .ensures, c .before .before .bend .ensures, c .before .before .before .channel-of2 .ensures)
+returns-5 c = simp (
+  c .before .before .before .before .before .m5 .given .1,
+  c .new4 .ensures,
+  c .before .with-channel2 .ensures,
+  c .before .before .bend .ensures,
+  c .before .before .before .channel-of2 .ensures,
+)
 
 returns-6 : tie.Need-returns-6
 unfolding played

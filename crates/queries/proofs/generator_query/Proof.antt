@@ -12,7 +12,12 @@ returns c = simp (le-leb _ _ (c .if1 .taken))
 
 returns-2 : tie.Need-returns-2
 unfolding generatorQuery
-returns-2 c = simp (lt-leb _ _ (c .before .before .before .before .before .before .before .if1 .left), c .element3 .ensures, c .before .element2 .ensures, c .before .before .element .ensures)
+returns-2 c = simp (
+  lt-leb _ _ (c .before .before .before .before .before .before .before .if1 .left),
+  c .element3 .ensures,
+  c .before .element2 .ensures,
+  c .before .before .element .ensures,
+)
 
 pub generator-query-spec : {M : Type 1} → statement M
 generator-query-spec =

@@ -19,7 +19,11 @@ returns : tie.Need-returns
 unfolding maskQuery
 returns c =
     let b = c .before .before .before .before in
-    simp (sym (b .before .is-channel .ensures) ∙ b .if1 .taken, by-mask, sym (c .before .masks .ensures) ∙ c .if2 .taken)
+    simp (
+      sym (b .before .is-channel .ensures) ∙ b .if1 .taken,
+      by-mask,
+      sym (c .before .masks .ensures) ∙ c .if2 .taken,
+    )
 
 returns-2 : tie.Need-returns-2
 unfolding maskQuery

@@ -17,7 +17,8 @@ returns c =
     let a = c .before .before .before .before .before .before .args in
     simp (c .states-after .ensures, c .before .state-after .ensures)
     (ap (withStates (a .generators))
-    (upTo-same _ _ 64 (λ g k. ap (λ (b : Bool). if b then stateAfter (a .change) else at (a .generators) g .state) (c .before .before .select .ensures (at (a .generators) g)))))
+    (upTo-same _ _ 64 (λ g k. ap (λ (b : Bool). if b then stateAfter (a .change) else at (a .generators) g .state)
+    (c .before .before .select .ensures (at (a .generators) g)))))
 
 pub apply-spec : {M : Type 1} → statement M
 apply-spec =

@@ -19,10 +19,12 @@ use Rattle.releases.proofs.states_after.Tie as tie
 
 -- the state of generator g afterwards
 abbrev rule : Selection → ℕ → List ℕ → List ℕ → List ℕ → ℕ → ℕ
-rule w to state channel keys g = if selects w (generator (getD state g 0) (getD channel g 0) (getD keys g 0)) then to else getD state g 0
+rule w to state channel keys g =
+    if selects w (generator (getD state g 0) (getD channel g 0) (getD keys g 0)) then to else getD state g 0
 
 abbrev Inv-loop : tie.InvT-loop
-Inv-loop w to state channel keys out₀ i₀ out i = (i ≤ 64) × (length out₀ ≡ 64) × (out ≡ upTo (rule w to state channel keys) i ++ drop i out₀)
+Inv-loop w to state channel keys out₀ i₀ out i =
+    (i ≤ 64) × (length out₀ ≡ 64) × (out ≡ upTo (rule w to state channel keys) i ++ drop i out₀)
 
 abbrev μ-loop : tie.MeasureT-loop
 μ-loop w to state channel keys out₀ i₀ out i = 64 - i
@@ -35,8 +37,12 @@ loop-again : tie.Need-loop-again Inv-loop μ-loop
 loop-again c =
     let l = c .before .before .before .loop in
     let a = c .before .before .before .before .args in
-    let x = c .if-else .ensures ∙ ap (λ (b : Bool). if b then a .to else getD (a .t1) (l .i) 0) (c .before .selects .ensures) in
-    (omega arith, l .inv .1, fill-next (rule (a .w) (a .to) (a .t1) (a .t2) (a .t3)) 0 (a .t1) (l .out) (l .i) _ (omega arith) (l .inv .2) x)
+    let x = c .if-else .ensures
+    ∙ ap (λ (b : Bool). if b then a .to else getD (a .t1) (l .i) 0) (c .before .selects .ensures) in (
+      omega arith,
+      l .inv .1,
+      fill-next (rule (a .w) (a .to) (a .t1) (a .t2) (a .t3)) 0 (a .t1) (l .out) (l .i) _ (omega arith) (l .inv .2) x,
+    )
 
 returns : tie.Need-returns Inv-loop μ-loop
 returns c = let l = c .before .loop in fill-end _ _ _ _ 64 (omega arith) (omega arith) (l .inv .2)

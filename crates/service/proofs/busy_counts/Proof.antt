@@ -6,7 +6,8 @@ use mathlib.Core.Logic.{⊎-elim}
 use native.Mathlib.Omega.{arith}
 use borrow.Author.Needs.{needs}
 use lib.ListN.{getD}
-use Rattle.service.proofs.Count.{Counted, none-counted, few, fits-one, counted-small, counted-more, counted-same, counted-all}
+use Rattle.service.proofs.Count.{Counted, none-counted, few, fits-one, counted-small}
+use Rattle.service.proofs.Count.{counted-more, counted-same, counted-all}
 use Rattle.service.proofs.busy_counts.Statement.{statement}
 use Rattle.service.proofs.busy_counts.Tie as tie
 
@@ -20,8 +21,12 @@ loop-holds : tie.Need-loop-holds Inv-loop μ-loop
 loop-holds c = (omega arith, none-counted (c .before .before .args .s .state) (c .before .before .args .s .channel))
 
 -- in the branch the generator is counted, so that its channel has a place
-place : (c : tie.Then1 Inv-loop μ-loop) → getD (c .before .before .before .before .before .before .args .s .channel) (c .before .before .before .loop .g) 0 < 17
-place c = counted-small (getD (c .before .before .before .before .before .before .args .s .state) (c .before .before .before .loop .g) 0) _ (sym (c .before .is-counted .ensures) ∙ c .if1 .taken)
+place : (c : tie.Then1 Inv-loop μ-loop)
+    → getD (c .before .before .before .before .before .before .args .s .channel)
+    (c .before .before .before .loop .g) 0 < 17
+place c = counted-small
+    (getD (c .before .before .before .before .before .before .args .s .state) (c .before .before .before .loop .g) 0) _
+    (sym (c .before .is-counted .ensures) ∙ c .if1 .taken)
 
 array-read-out : tie.Need-array-read-out Inv-loop μ-loop
 array-read-out c = place c
@@ -46,8 +51,10 @@ loop-again c =
     let e = sym (c .before .is-counted .ensures) in
     let k = getD (a .channel) (l .g) 0 in
     let more = counted-more (a .state) (a .channel) (l .g) (l .out) (l .inv .1) k refl in
-    let same = counted-same (a .state) (a .channel) (l .g) (l .out) (l .inv .1) k refl in
-    (omega arith, ⊎-elim (λ w. rw (w .1) (more (e ∙ w .0 .taken))) (λ w. rw (w .1) (same (e ∙ w .0 .left))) (c .if1 .came))
+    let same = counted-same (a .state) (a .channel) (l .g) (l .out) (l .inv .1) k refl in (
+      omega arith,
+      ⊎-elim (λ w. rw (w .1) (more (e ∙ w .0 .taken))) (λ w. rw (w .1) (same (e ∙ w .0 .left))) (c .if1 .came),
+    )
 
 returns : tie.Need-returns Inv-loop μ-loop
 returns c =

@@ -19,7 +19,9 @@ returns c =
     let value = c .before .before .before .value-field in
     let share = c .before .before .share-field in
     let mark = c .before .mark-of in
-    from-fields (a .c) (at .result) (s .result) (a .busy) (b .two .result) (place .result) (value .result) (share .result) (c .two2 .result) (mark .result) (b .two .ensures) (place .ensures) (value .ensures) (share .ensures) (mark .ensures) (c .two2 .ensures)
+    from-fields (a .c) (at .result) (s .result) (a .busy) (b .two .result) (place .result)
+    (value .result) (share .result) (c .two2 .result) (mark .result) (b .two .ensures)
+    (place .ensures) (value .ensures) (share .ensures) (mark .ensures) (c .two2 .ensures)
     ∙ rw (at .ensures, s .ensures) refl
 
 pub line-spec : {M : Type 1} → statement M

@@ -11,7 +11,8 @@ use Rattle.service.proofs.put.Statement.{statement}
 use Rattle.service.proofs.put.Tie as tie
 
 abbrev Inv-loop : tie.InvT-loop
-Inv-loop page₀ at line i₀ page i = (i ≤ 19) × (at + 19 ≤ length page₀) × (length line ≡ 19) × (page ≡ paste page₀ at line i)
+Inv-loop page₀ at line i₀ page i =
+    (i ≤ 19) × (at + 19 ≤ length page₀) × (length line ≡ 19) × (page ≡ paste page₀ at line i)
 
 abbrev μ-loop : tie.MeasureT-loop
 μ-loop page₀ at line i₀ page i = 19 - i
@@ -33,8 +34,12 @@ loop-again c =
     let l = c .before .loop in
     let i = l .inv in
     let a = c .before .before .args in
-    let t = c .loop-test .taken in
-    (omega arith, i .1, i .2, rw (i .3, paste-suc (a .page .now) (a .at) (a .t3) (l .i) 0 (omega arith) (omega arith), add-one (l .i)) refl)
+    let t = c .loop-test .taken in (
+      omega arith,
+      i .1,
+      i .2,
+      rw (i .3, paste-suc (a .page .now) (a .at) (a .t3) (l .i) 0 (omega arith) (omega arith), add-one (l .i)) refl,
+    )
 
 same-length : tie.Need-same-length Inv-loop μ-loop
 same-length c =

@@ -13,22 +13,27 @@ use Rattle.service.proofs.put_rows.Statement.{statement}
 use Rattle.service.proofs.put_rows.Tie as tie
 
 abbrev Inv-loop : tie.InvT-loop
-Inv-loop page₀ t p busy n₀ page n = (n ≤ 16) × (323 ≤ length page₀) × Rows (entriesOf t) p (λ c. getD busy c 0) page₀ n page
+Inv-loop page₀ t p busy n₀ page n =
+    (n ≤ 16) × (323 ≤ length page₀) × Rows (entriesOf t) p (λ c. getD busy c 0) page₀ n page
 
 abbrev μ-loop : tie.MeasureT-loop
 μ-loop page₀ t p busy n₀ page n = 16 - n
 
 loop-holds : tie.Need-loop-holds Inv-loop μ-loop
 loop-holds c =
-    let a = c .before .args in
-    (omega arith, c .before .pre, first-rows (entriesOf (a .t)) (a .p) (λ n. getD (a .t4) n 0) (a .page .now) (c .before .pre))
+    let a = c .before .args in (
+      omega arith,
+      c .before .pre,
+      first-rows (entriesOf (a .t)) (a .p) (λ n. getD (a .t4) n 0) (a .page .now) (c .before .pre),
+    )
 
 put-requires : tie.Need-put-requires Inv-loop μ-loop
 put-requires c κs =
     let l = c .before .before .before .loop in
     let a = c .before .before .before .before .before .args in
     let t = c .before .before .loop-test .taken in
-    let r = rows-room (entriesOf (a .t)) (a .p) (λ n. getD (a .t4) n 0) (a .page .now) (l .inv .1) (l .n) (l .page) (l .inv .0) (l .inv .2) in
+    let r = rows-room (entriesOf (a .t)) (a .p)
+    (λ n. getD (a .t4) n 0) (a .page .now) (l .inv .1) (l .n) (l .page) (l .inv .0) (l .inv .2) in
     rw r (room (l .n) _ t (l .inv .1))
 
 loop-again : tie.Need-loop-again Inv-loop μ-loop
@@ -37,14 +42,19 @@ loop-again c =
     let b = c .before .before in
     let l = b .before .before .before .before .loop in
     let a = b .before .before .before .before .before .before .args in
-    let t = b .before .before .before .loop-test .taken in
-    (one-more (l .n) t, l .inv .1, next-rows (entriesOf (a .t)) (a .p) (λ n. getD (a .t4) n 0) (a .page .now) (l .inv .1) (l .n) (l .page) _ (b .before .line .result) (l .inv .2) (b .before .line .ensures) (b .put .ensures))
+    let t = b .before .before .before .loop-test .taken in (
+      one-more (l .n) t,
+      l .inv .1,
+      next-rows (entriesOf (a .t)) (a .p) (λ n. getD (a .t4) n 0) (a .page .now) (l .inv .1) (l .n) (l .page) _
+          (b .before .line .result) (l .inv .2) (b .before .line .ensures) (b .put .ensures),
+    )
 
 same-length : tie.Need-same-length Inv-loop μ-loop
 same-length c =
     let l = c .before .loop in
     let a = c .before .before .before .args in
-    rows-room (entriesOf (a .t)) (a .p) (λ n. getD (a .t4) n 0) (a .page .now) (l .inv .1) (l .n) (l .page) (l .inv .0) (l .inv .2)
+    rows-room (entriesOf (a .t)) (a .p)
+    (λ n. getD (a .t4) n 0) (a .page .now) (l .inv .1) (l .n) (l .page) (l .inv .0) (l .inv .2)
 
 returns : tie.Need-returns Inv-loop μ-loop
 returns c =

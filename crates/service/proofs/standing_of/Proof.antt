@@ -17,7 +17,8 @@ use Rattle.service.proofs.standing_of.Statement.{statement}
 use Rattle.service.proofs.standing_of.Tie as tie
 
 abbrev Inv-loop : tie.InvT-loop
-Inv-loop c entries n k₀ k = (k ≤ n) × (n ≤ 16) × (length entries ≡ 16) × (standingFrom (k + 1) c (drop k (take n entries)) ≡ standingFrom 1 c (take n entries))
+Inv-loop c entries n k₀ k = (k ≤ n) × (n ≤ 16) × (length entries ≡ 16)
+    × (standingFrom (k + 1) c (drop k (take n entries)) ≡ standingFrom 1 c (take n entries))
 
 abbrev μ-loop : tie.MeasureT-loop
 μ-loop c entries n k₀ k = 16 - k
@@ -42,8 +43,10 @@ returns c =
     let b = c .before .before .before .before in
     let n = b .before .at-most in
     let a = b .before .before .before .args in
-    standing-here (a .t .entries) (n .result) (b .loop .k) (b .loop .k + 1) (a .c) _ (omega arith) (omega arith) (b .loop .inv .3) (eq-eqb _ _ (c .if1 .taken))
-    ∙ ap (λ (l : List Entry). standingFrom 1 (a .c) l) (all-entries (a .t) (n .result) (b .loop .inv .2) (n .ensures .0))
+    standing-here (a .t .entries) (n .result) (b .loop .k) (b .loop .k + 1) (a .c) _
+    (omega arith) (omega arith) (b .loop .inv .3) (eq-eqb _ _ (c .if1 .taken))
+    ∙ ap (λ (l : List Entry). standingFrom 1 (a .c) l)
+    (all-entries (a .t) (n .result) (b .loop .inv .2) (n .ensures .0))
 
 add-k : tie.Need-add-k Inv-loop μ-loop
 add-k c = omega arith
@@ -55,8 +58,13 @@ loop-again : tie.Need-loop-again Inv-loop μ-loop
 loop-again c =
     let b = c .before .before .before .before in
     let n = b .before .at-most in
-    let a = b .before .before .before .args in
-    (omega arith, omega arith, b .loop .inv .2, standing-next (a .t .entries) (n .result) (b .loop .k) (b .loop .k + 1) (a .c) _ (omega arith) (omega arith) (b .loop .inv .3) (ne-eqb _ _ (c .if1 .left)))
+    let a = b .before .before .before .args in (
+      omega arith,
+      omega arith,
+      b .loop .inv .2,
+      standing-next (a .t .entries) (n .result) (b .loop .k) (b .loop .k + 1) (a .c) _
+          (omega arith) (omega arith) (b .loop .inv .3) (ne-eqb _ _ (c .if1 .left)),
+    )
 
 returns-2 : tie.Need-returns-2 Inv-loop μ-loop
 returns-2 c =
@@ -64,7 +72,8 @@ returns-2 c =
     let n = b .before .at-most in
     let a = b .before .before .before .args in
     standing-end (a .t .entries) (n .result) (b .loop .k) (b .loop .k + 1) (a .c) _ (omega arith) (b .loop .inv .3)
-    ∙ ap (λ (l : List Entry). standingFrom 1 (a .c) l) (all-entries (a .t) (n .result) (b .loop .inv .2) (n .ensures .0))
+    ∙ ap (λ (l : List Entry). standingFrom 1 (a .c) l)
+    (all-entries (a .t) (n .result) (b .loop .inv .2) (n .ensures .0))
 
 pub standing-of-spec : {M : Type 1} → statement M
 standing-of-spec =

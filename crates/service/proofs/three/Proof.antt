@@ -23,4 +23,5 @@ unfolding inThree
 returns-3 c = rw (le-ltb _ 100 (c .if2 .left), le-ltb _ 10 (c .before .if1 .left)) refl
 
 pub three-spec : {M : Type 1} → statement M
-three-spec = tie.close (tie.spec (λ c. search needs) returns (λ c. search needs) (λ c. search needs) returns-2 (λ c. search needs) (λ c. search needs) (λ c. search needs) returns-3)
+three-spec = tie.close (tie.spec (λ c. search needs) returns (λ c. search needs)
+    (λ c. search needs) returns-2 (λ c. search needs) (λ c. search needs) (λ c. search needs) returns-3)

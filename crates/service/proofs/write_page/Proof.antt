@@ -21,4 +21,5 @@ returns-2 c =
     page-whole (a .d) (a .page .now) _ _ (counts .result) left (b .put .ensures) (counts .ensures) (rows .ensures)
 
 pub write-page-spec : {M : Type 1} → statement M
-write-page-spec = tie.close (tie.spec returns (λ c κs. search needs) (λ c κs. search needs) (λ c κs. search needs) (λ c. search needs) returns-2)
+write-page-spec = tie.close (tie.spec returns (λ c κs. search needs)
+    (λ c κs. search needs) (λ c κs. search needs) (λ c. search needs) returns-2)

@@ -17,7 +17,8 @@ use Rattle.shares.proofs.share_of.Statement.{statement}
 use Rattle.shares.proofs.share_of.Tie as tie
 
 abbrev Inv-loop : tie.InvT-loop
-Inv-loop p c entries n before₀ i₀ before i = (i ≤ n) × (n ≤ 16) × (length entries ≡ 16) × (lookup c (sharesFrom p before (drop i (take n entries))) ≡ lookup c (sharesFrom p 0 (take n entries)))
+Inv-loop p c entries n before₀ i₀ before i = (i ≤ n) × (n ≤ 16) × (length entries ≡ 16)
+    × (lookup c (sharesFrom p before (drop i (take n entries))) ≡ lookup c (sharesFrom p 0 (take n entries)))
 
 abbrev μ-loop : tie.MeasureT-loop
 μ-loop p c entries n before₀ i₀ before i = 16 - i
@@ -41,8 +42,10 @@ returns c =
     let n = b .before .at-most in
     let a = b .before .before .before .args in
     ap Units (c .less .ensures)
-    ∙ share-here (a .table .entries) (n .result) (b .loop .i) (a .polyphony) (a .channel) (b .loop .before) _ (omega arith) (omega arith) (b .loop .inv .3) (c .before .if1 .taken)
-    ∙ ap (λ (l : List Entry). lookup (a .channel) (sharesFrom (a .polyphony) 0 l)) (all-entries (a .table) (n .result) (b .loop .inv .2) (n .ensures .0))
+    ∙ share-here (a .table .entries) (n .result) (b .loop .i) (a .polyphony) (a .channel)
+    (b .loop .before) _ (omega arith) (omega arith) (b .loop .inv .3) (c .before .if1 .taken)
+    ∙ ap (λ (l : List Entry). lookup (a .channel) (sharesFrom (a .polyphony) 0 l))
+    (all-entries (a .table) (n .result) (b .loop .inv .2) (n .ensures .0))
 
 add-i : tie.Need-add-i Inv-loop μ-loop
 add-i c = omega arith
@@ -54,8 +57,13 @@ loop-again : tie.Need-loop-again Inv-loop μ-loop
 loop-again c =
     let b = c .before .before .before .before .before in
     let n = b .before .at-most in
-    let a = b .before .before .before .args in
-    (omega arith, omega arith, b .loop .inv .2, share-next (a .table .entries) (n .result) (b .loop .i) (a .polyphony) (a .channel) (b .loop .before) _ (omega arith) (omega arith) (b .loop .inv .3) (c .if1 .left))
+    let a = b .before .before .before .args in (
+      omega arith,
+      omega arith,
+      b .loop .inv .2,
+      share-next (a .table .entries) (n .result) (b .loop .i) (a .polyphony) (a .channel)
+          (b .loop .before) _ (omega arith) (omega arith) (b .loop .inv .3) (c .if1 .left),
+    )
 
 returns-2 : tie.Need-returns-2 Inv-loop μ-loop
 unfolding shareOf
@@ -63,8 +71,10 @@ returns-2 c =
     let b = c .before in
     let n = b .before .at-most in
     let a = b .before .before .before .args in
-    share-end (a .table .entries) (n .result) (b .loop .i) (a .polyphony) (a .channel) (b .loop .before) _ (omega arith) (b .loop .inv .3)
-    ∙ ap (λ (l : List Entry). lookup (a .channel) (sharesFrom (a .polyphony) 0 l)) (all-entries (a .table) (n .result) (b .loop .inv .2) (n .ensures .0))
+    share-end (a .table .entries) (n .result) (b .loop .i) (a .polyphony)
+    (a .channel) (b .loop .before) _ (omega arith) (b .loop .inv .3)
+    ∙ ap (λ (l : List Entry). lookup (a .channel) (sharesFrom (a .polyphony) 0 l))
+    (all-entries (a .table) (n .result) (b .loop .inv .2) (n .ensures .0))
 
 pub share-of-spec : {M : Type 1} → statement M
 share-of-spec =

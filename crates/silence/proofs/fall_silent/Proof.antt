@@ -12,7 +12,13 @@ returns c =
     let b = c .before .before .before .before .before in
     let a = b .before .before .before .before in
     let l = state-64 (a .args .generators) (a .good .0) in
-    simp (c .unmarked3 .ensures, c .before .unmarked2 .ensures, c .before .before .unmarked .ensures, c .before .before .before .without .ensures, b .marks .ensures)
+    simp (
+      c .unmarked3 .ensures,
+      c .before .unmarked2 .ensures,
+      c .before .before .unmarked .ensures,
+      c .before .before .before .without .ensures,
+      b .marks .ensures,
+    )
     (silence-of (a .args .leaving) (a .args .generators) l)
 
 pub fall-silent-spec : {M : Type 1} → statement M

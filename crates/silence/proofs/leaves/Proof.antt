@@ -21,7 +21,11 @@ returns-3 c = simp (ne-eqb _ _ (c .before .before .before .if1 .left), c .before
 
 returns-4 : tie.Need-returns-4
 unfolding leaves isAmong
-returns-4 c = simp (ne-eqb _ _ (c .before .before .before .before .if1 .left), c .before .before .leaving3 .given .1, c .excluded .ensures)
+returns-4 c = simp (
+  ne-eqb _ _ (c .before .before .before .before .if1 .left),
+  c .before .before .leaving3 .given .1,
+  c .excluded .ensures,
+)
 
 pub leaves-spec : {M : Type 1} → statement M
 leaves-spec =

@@ -19,7 +19,8 @@ abbrev rule : List ℕ → List ℕ → ℕ → ℕ
 rule numbers marks g = if eqb (getD marks g 0) 0 then getD numbers g 0 else 0
 
 abbrev Inv-loop : tie.InvT-loop
-Inv-loop numbers marks out₀ i₀ out i = (i ≤ 64) × (length out₀ ≡ 64) × (out ≡ upTo (rule numbers marks) i ++ drop i out₀)
+Inv-loop numbers marks out₀ i₀ out i =
+    (i ≤ 64) × (length out₀ ≡ 64) × (out ≡ upTo (rule numbers marks) i ++ drop i out₀)
 
 abbrev μ-loop : tie.MeasureT-loop
 μ-loop numbers marks out₀ i₀ out i = 64 - i
@@ -31,8 +32,11 @@ loop-holds c = (omega arith, c .good .0 .1 .0 .1, refl)
 loop-again : tie.Need-loop-again Inv-loop μ-loop
 loop-again c =
     let l = c .before .before .loop in
-    let a = c .before .before .before .args in
-    (omega arith, l .inv .1, fill-next (rule (a .t1) (a .t2)) 0 (a .t1) (l .out) (l .i) _ (omega arith) (l .inv .2) (c .if-else .ensures))
+    let a = c .before .before .before .args in (
+      omega arith,
+      l .inv .1,
+      fill-next (rule (a .t1) (a .t2)) 0 (a .t1) (l .out) (l .i) _ (omega arith) (l .inv .2) (c .if-else .ensures),
+    )
 
 returns : tie.Need-returns Inv-loop μ-loop
 returns c = let l = c .before .loop in fill-end _ _ _ _ 64 (omega arith) (omega arith) (l .inv .2)

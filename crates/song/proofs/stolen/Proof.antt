@@ -15,4 +15,5 @@ returns-3 : tie.Need-returns-3
 returns-3 c = (simp (c .enum-told3 .given .1), omega arith)
 
 pub stolen-spec : {M : Type 1} → statement M
-stolen-spec = tie.close (tie.spec (λ c. search needs) (λ c. search needs) (λ c. search needs) returns returns-2 returns-3)
+stolen-spec =
+    tie.close (tie.spec (λ c. search needs) (λ c. search needs) (λ c. search needs) returns returns-2 returns-3)

@@ -62,7 +62,9 @@ add-i c =
 loop-again : tie.Need-loop-again Inv-loop μ-loop
 loop-again c =
     let l = c .before .before .before .before .before .loop in
-    turn-next _ _ _ _ _ _ _ (l .inv) (c .before .before .before .before .loop-test .taken) _ (c .before .before .before .song-byte .ensures) _ (c .before .before .byte .ensures) _ (c .before .theft .ensures .0)
+    turn-next _ _ _ _ _ _ _ (l .inv) (c .before .before .before .before .loop-test .taken) _
+    (c .before .before .before .song-byte .ensures) _
+    (c .before .before .byte .ensures) _ (c .before .theft .ensures .0)
 
 same-length : tie.Need-same-length Inv-loop μ-loop
 same-length c = c .before .loop .inv .same

@@ -20,17 +20,20 @@ add-t15 c =
 returns-2 : tie.Need-returns-2
 returns-2 c =
     let w = c .before .before .before .before .before .write-behind .ensures in
-    put-song _ _ _ _ _ (c .before .before .before .before .before .before .before .if1 .left) (sym (w .0) ∙ c .before .a .given .1) (w .1)
+    put-song _ _ _ _ _ (c .before .before .before .before .before .before .before .if1 .left)
+    (sym (w .0) ∙ c .before .a .given .1) (w .1)
 
 returns-3 : tie.Need-returns-3
 returns-3 c =
     let w = c .before .before .before .before .write-behind .ensures in
-    put-wrong _ _ _ _ (c .before .before .before .before .before .before .if1 .left) (sym (w .0) ∙ c .enum-told .given .1)
+    put-wrong _ _ _ _ (c .before .before .before .before .before .before .if1 .left)
+    (sym (w .0) ∙ c .enum-told .given .1)
 
 returns-4 : tie.Need-returns-4
 returns-4 c =
     let w = c .before .before .before .before .write-behind .ensures in
-    put-long _ _ _ _ (c .before .before .before .before .before .before .if1 .left) (sym (w .0) ∙ c .enum-told2 .given .1)
+    put-long _ _ _ _ (c .before .before .before .before .before .before .if1 .left)
+    (sym (w .0) ∙ c .enum-told2 .given .1)
 
 pub put-song-spec : {M : Type 1} → statement M
 put-song-spec =

@@ -18,7 +18,8 @@ abbrev Inv-loop : tie.InvT-loop
 Inv-loop s p new entries i₀ i =
     (i ≤ 16)
     × (length entries ≡ 16)
-    × (overShare (counted s new) (sharesFrom p 0 (take i entries)) ≡ overShare (counted s new) (sharesFrom p 0 (take i₀ entries)))
+    × (overShare (counted s new) (sharesFrom p 0 (take i entries))
+    ≡ overShare (counted s new) (sharesFrom p 0 (take i₀ entries)))
 
 abbrev μ-loop : tie.MeasureT-loop
 μ-loop s p new entries i₀ i = i
@@ -42,9 +43,11 @@ returns c =
     let a = b .before .before .before .args in
     let m = b .before .at-most in
     let h : 0 < b .loop .i = d .before .before .before .before .loop-test .taken in
-    let t = rw (d .if-else .ensures, d .before .before .less .ensures) at (sym (c .before .is-over .ensures) ∙ c .if1 .taken) in
+    let t = rw (d .if-else .ensures, d .before .before .less .ensures)
+    at (sym (c .before .is-over .ensures) ∙ c .if1 .taken) in
     rw (← (take-at-most 16 (a .table .count) (a .table .entries) (b .loop .inv .1)), ← (m .ensures .0))
-    (ap toLoser (over-yes (a .polyphony) (counted (a .generators) (a .channel)) (a .table .entries) (b .loop .i) h (omega arith) _ (b .loop .inv .2) t))
+    (ap toLoser (over-yes (a .polyphony) (counted (a .generators) (a .channel))
+    (a .table .entries) (b .loop .i) h (omega arith) _ (b .loop .inv .2) t))
 
 loop-again : tie.Need-loop-again Inv-loop μ-loop
 loop-again c =
@@ -52,8 +55,13 @@ loop-again c =
     let b = d .before .before .before .before .before in
     let a = b .before .before .before .args in
     let h : 0 < b .loop .i = d .before .before .before .before .loop-test .taken in
-    let t = rw (d .if-else .ensures, d .before .before .less .ensures) at (sym (c .before .is-over .ensures) ∙ c .if1 .left) in
-    (omega arith, b .loop .inv .1, over-no (a .polyphony) (counted (a .generators) (a .channel)) (a .table .entries) (b .loop .i) h (omega arith) _ (b .loop .inv .2) t)
+    let t = rw (d .if-else .ensures, d .before .before .less .ensures)
+    at (sym (c .before .is-over .ensures) ∙ c .if1 .left) in (
+      omega arith,
+      b .loop .inv .1,
+      over-no (a .polyphony) (counted (a .generators) (a .channel))
+          (a .table .entries) (b .loop .i) h (omega arith) _ (b .loop .inv .2) t,
+    )
 
 returns-2 : tie.Need-returns-2 Inv-loop μ-loop
 unfolding stealFrom sharesFrom overShare
@@ -62,7 +70,8 @@ returns-2 c =
     let a = b .before .before .before .args in
     let m = b .before .at-most in
     let e : b .loop .i ≡ 0 = omega arith in
-    rw (← (take-at-most 16 (a .table .count) (a .table .entries) (b .loop .inv .1)), ← (m .ensures .0)) (ap toLoser (rw e at (b .loop .inv .2)))
+    rw (← (take-at-most 16 (a .table .count) (a .table .entries) (b .loop .inv .1)), ← (m .ensures .0))
+    (ap toLoser (rw e at (b .loop .inv .2)))
 
 pub steal-from-spec : {M : Type 1} → statement M
 steal-from-spec =

@@ -13,7 +13,8 @@ unfolding kindOf
 returns c =
     let s = c .before .before .before in
     let size = bytes-37 (s .args .parser) (s .good .0) in
-    simp (mip-head (s .args .id) (s .args .parser .count) (s .args .parser .bytes) size ∙ (rw (c .before .starts-with .ensures) at (c .if1 .taken)))
+    simp (mip-head (s .args .id) (s .args .parser .count) (s .args .parser .bytes) size
+    ∙ (rw (c .before .starts-with .ensures) at (c .if1 .taken)))
 
 returns-2 : tie.Need-returns-2
 unfolding kindOf
@@ -22,8 +23,10 @@ returns-2 c =
     let s = b .before .before .before in
     let size = bytes-37 (s .args .parser) (s .good .0) in
     simp (
-      mip-head (s .args .id) (s .args .parser .count) (s .args .parser .bytes) size ∙ (rw (b .before .starts-with .ensures) at (b .if1 .left)),
-      system-on-head (s .args .id) (s .args .parser .count) (s .args .parser .bytes) size ∙ (rw (c .before .starts-with2 .ensures) at (c .if2 .taken)),
+      mip-head (s .args .id) (s .args .parser .count) (s .args .parser .bytes) size
+          ∙ (rw (b .before .starts-with .ensures) at (b .if1 .left)),
+      system-on-head (s .args .id) (s .args .parser .count) (s .args .parser .bytes) size
+          ∙ (rw (c .before .starts-with2 .ensures) at (c .if2 .taken)),
     )
 
 returns-3 : tie.Need-returns-3
@@ -33,8 +36,10 @@ returns-3 c =
     let s = b .before .before .before in
     let size = bytes-37 (s .args .parser) (s .good .0) in
     simp (
-      mip-head (s .args .id) (s .args .parser .count) (s .args .parser .bytes) size ∙ (rw (b .before .starts-with .ensures) at (b .if1 .left)),
-      system-on-head (s .args .id) (s .args .parser .count) (s .args .parser .bytes) size ∙ (rw (c .before .starts-with2 .ensures) at (c .if2 .left)),
+      mip-head (s .args .id) (s .args .parser .count) (s .args .parser .bytes) size
+          ∙ (rw (b .before .starts-with .ensures) at (b .if1 .left)),
+      system-on-head (s .args .id) (s .args .parser .count) (s .args .parser .bytes) size
+          ∙ (rw (c .before .starts-with2 .ensures) at (c .if2 .left)),
     )
 
 pub kind-of-spec : {M : Type 1} → statement M

@@ -11,7 +11,8 @@ use Rattle.text.proofs.put.Statement.{statement}
 use Rattle.text.proofs.put.Tie as tie
 
 abbrev Inv-loop : tie.InvT-loop
-Inv-loop page₀ at text k₀ i₀ page k i = (i ≤ length text) × (length page ≡ length page₀) × Put page₀ at (take i text) k page
+Inv-loop page₀ at text k₀ i₀ page k i =
+    (i ≤ length text) × (length page ≡ length page₀) × Put page₀ at (take i text) k page
 
 abbrev μ-loop : tie.MeasureT-loop
 μ-loop page₀ at text k₀ i₀ page k i = length text - i
@@ -22,8 +23,11 @@ loop-holds c = (omega arith, refl, nothing-put _ _)
 loop-again : tie.Need-loop-again Inv-loop μ-loop
 loop-again c =
     let b = c .before .before .before .before .before .before in
-    let p = c .before .before .put-byte in
-    (omega arith, p .kept .0 ∙ b .loop .inv .1, put-next _ _ (b .loop .inv .2) (c .before .before .before .before .before .loop-test .taken) (p .ensures))
+    let p = c .before .before .put-byte in (
+      omega arith,
+      p .kept .0 ∙ b .loop .inv .1,
+      put-next _ _ (b .loop .inv .2) (c .before .before .before .before .before .loop-test .taken) (p .ensures),
+    )
 
 same-length : tie.Need-same-length Inv-loop μ-loop
 same-length c = c .before .loop .inv .1

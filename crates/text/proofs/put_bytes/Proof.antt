@@ -12,7 +12,8 @@ use Rattle.text.proofs.put_bytes.Statement.{statement}
 use Rattle.text.proofs.put_bytes.Tie as tie
 
 abbrev Inv-loop : tie.InvT-loop
-Inv-loop page₀ at bytes k₀ i₀ page k i = (i ≤ length bytes) × (length page ≡ length page₀) × Put page₀ at (hexadecimals (take i bytes)) k page
+Inv-loop page₀ at bytes k₀ i₀ page k i =
+    (i ≤ length bytes) × (length page ≡ length page₀) × Put page₀ at (hexadecimals (take i bytes)) k page
 
 abbrev μ-loop : tie.MeasureT-loop
 μ-loop page₀ at bytes k₀ i₀ page k i = length bytes - i
@@ -26,8 +27,11 @@ loop-again c =
     let h = c .before .before .put-hex in
     let b = c .before .before .before .before .before .before .before .put-blank in
     let t = c .before .before .before .before .before .before .before .before .before in
-    let l = t .before .loop in
-    (omega arith, h .kept .0 ∙ b .kept .0 ∙ l .inv .1, hex-next _ _ (l .inv .2) (t .loop-test .taken) (b .ensures) (h .ensures))
+    let l = t .before .loop in (
+      omega arith,
+      h .kept .0 ∙ b .kept .0 ∙ l .inv .1,
+      hex-next _ _ (l .inv .2) (t .loop-test .taken) (b .ensures) (h .ensures),
+    )
 
 same-length : tie.Need-same-length Inv-loop μ-loop
 same-length c = c .before .loop .inv .1

@@ -9,7 +9,8 @@ use Rattle.text.proofs.put_number.Tie as tie
 returns : tie.Need-returns
 returns c =
     let d = c .before .before .before .before .before .decimal in
-    rw (d .ensures .1 .1 ∙ decimal-digits 20 _ _ (twenty _ _ (search needs) (d .ensures .1 .0)) (d .ensures .1 .0)) at (c .before .before .put .ensures)
+    rw (d .ensures .1 .1 ∙ decimal-digits 20 _ _ (twenty _ _ (search needs) (d .ensures .1 .0)) (d .ensures .1 .0))
+    at (c .before .before .put .ensures)
 
 pub put-number-spec : {M : Type 1} → statement M
 put-number-spec =

@@ -24,7 +24,10 @@ returns : tie.Need-returns Inv-loop μ-loop
 returns c = search needs
 
 loop-again : tie.Need-loop-again Inv-loop μ-loop
-loop-again c = (omega arith, c .before .before .take-byte .kept .1 .0 ∙ c .before .before .before .before .before .before .loop .inv .1)
+loop-again c = (
+  omega arith,
+  c .before .before .take-byte .kept .1 .0 ∙ c .before .before .before .before .before .before .loop .inv .1,
+)
 
 same-length-2 : tie.Need-same-length-2 Inv-loop μ-loop
 same-length-2 c = c .before .loop .inv .1

@@ -23,7 +23,8 @@ returns-2 c =
     let a = c .before .before .before .args in
     let h : a .g < 256 = omega (arith, c .before .before .if1 .left) in
     let others = filter-same _ (otherThan (a .g)) (oldestFirst (a .self)) (one-marked (a .g) h) in
-    simp (lt-ltb _ _ (c .before .before .if1 .left)) (c .push .ensures ∙ rw (c .before .without .ensures, others) (push-of (filterBy (otherThan (a .g)) (oldestFirst (a .self))) (a .g)))
+    simp (lt-ltb _ _ (c .before .before .if1 .left)) (c .push .ensures
+    ∙ rw (c .before .without .ensures, others) (push-of (filterBy (otherThan (a .g)) (oldestFirst (a .self))) (a .g)))
 
 pub newest-spec : {M : Type 1} → statement M
 newest-spec =

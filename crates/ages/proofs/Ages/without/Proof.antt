@@ -47,7 +47,8 @@ loop-again c =
     let p = unmarked (a .t2) in
     let h : l .i < length order = omega arith in
     let k : l .i < 64 = omega arith in
-    let q = kept-count p 0 64 order (l .i) (l .m) (padded 64 0 (kept p 0 64 order (l .i))) (p (getD order (l .i) 0)) h k refl (l .inv .4) refl in
+    let q = kept-count p 0 64 order (l .i) (l .m) (padded 64 0 (kept p 0 64 order (l .i)))
+    (p (getD order (l .i) 0)) h k refl (l .inv .4) refl in
     let r = loose-next p order (l .i) (l .m) (l .kept) h k (l .inv .4) (l .inv .6) in
     let s = length-set (l .kept) (l .m) (getD order (l .i) 0) in
     let e = c .one .ensures .0 ∙ ap (λ (n : ℕ). bit (unmarked (a .t2) n)) (c .before .place .ensures .0) in
@@ -61,7 +62,8 @@ returns c =
     let a = b .before .before .before .args in
     let n = b .before .at-most in
     let e : l .i ≡ n .result = omega arith in
-    kept-end (unmarked (a .t2)) (a .self) (l .i) (l .m) (set (l .kept) (l .m) 0) (l .inv .2) (e ∙ n .ensures .0) (l .inv .4) (l .inv .6)
+    kept-end (unmarked (a .t2)) (a .self) (l .i) (l .m)
+    (set (l .kept) (l .m) 0) (l .inv .2) (e ∙ n .ensures .0) (l .inv .4) (l .inv .6)
 
 returns-2 : tie.Need-returns-2 Inv-loop μ-loop
 unfolding without

@@ -12,7 +12,8 @@ returns : tie.Need-returns
 unfolding withChannel
 returns c =
     let a = c .before .before .before .args in
-    ap (withChannels (a .self)) (c .replace .ensures ∙ ap (λ (k : ℕ). replaced (a .self .channels) k (a .x)) (c .before .less .ensures))
+    ap (withChannels (a .self))
+    (c .replace .ensures ∙ ap (λ (k : ℕ). replaced (a .self .channels) k (a .x)) (c .before .less .ensures))
 
 pub with-channel-spec : {M : Type 1} → statement M
 with-channel-spec = tie.close (tie.spec (λ c κs. search needs) (λ c κs. search needs) returns)

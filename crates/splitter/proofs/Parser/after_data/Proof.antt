@@ -29,7 +29,12 @@ returns-2 : tie.Need-returns-2
 unfolding dataByte
 returns-2 c =
     let b = c .before .before .before .before in
-    simp (le-ltb _ _ (b .before .if1 .left), sym (b .at-last .ensures) ∙ c .before .before .before .if2 .taken, c .begin .ensures, c .before .if-else .ensures) (begun-anew _ _)
+    simp (
+      le-ltb _ _ (b .before .if1 .left),
+      sym (b .at-last .ensures) ∙ c .before .before .before .if2 .taken,
+      c .begin .ensures,
+      c .before .if-else .ensures,
+    ) (begun-anew _ _)
 
 returns-3 : tie.Need-returns-3
 unfolding dataByte

@@ -15,7 +15,12 @@ returns-2 : tie.Need-returns-2
 unfolding completed
 returns-2 c =
     let b = c .before .before .before in
-    simp (lt-leb _ _ (b .before .if1 .left), c .if-else2 .ensures, c .before .if-else .ensures, b .one-data-byte .ensures)
+    simp (
+      lt-leb _ _ (b .before .if1 .left),
+      c .if-else2 .ensures,
+      c .before .if-else .ensures,
+      b .one-data-byte .ensures,
+    )
 
 pub message-spec : {M : Type 1} → statement M
 message-spec =

@@ -17,7 +17,8 @@ abbrev wanted : ℕ → List Entry
 wanted p = map (λ (c : ℕ). entry c p) startOrder
 
 abbrev Inv-loop : tie.InvT-loop
-Inv-loop p entries₀ i₀ entries i = (i ≤ 16) × (length entries ≡ 16) × (entries ≡ padded 16 (entry 0 0) (take i (wanted p)))
+Inv-loop p entries₀ i₀ entries i =
+    (i ≤ 16) × (length entries ≡ 16) × (entries ≡ padded 16 (entry 0 0) (take i (wanted p)))
 
 abbrev μ-loop : tie.MeasureT-loop
 μ-loop p entries₀ i₀ entries i = 16 - i
@@ -44,8 +45,12 @@ loop-less c = omega arith
 loop-again : tie.Need-loop-again Inv-loop μ-loop
 loop-again c =
     let l = c .before .loop in
-    let p = c .before .before .args .polyphony in
-    (omega arith, simp length-set (omega arith), places-turn (wanted p) (entry 0 p) (l .i) (l .entries) _ (omega arith) (omega arith) (l .inv .2) (sym (List·getD-map (λ (c : ℕ). entry c p) startOrder (l .i) 0)))
+    let p = c .before .before .args .polyphony in (
+      omega arith,
+      simp length-set (omega arith),
+      places-turn (wanted p) (entry 0 p) (l .i) (l .entries) _ (omega arith)
+          (omega arith) (l .inv .2) (sym (List·getD-map (λ (c : ℕ). entry c p) startOrder (l .i) 0)),
+    )
 
 returns : tie.Need-returns Inv-loop μ-loop
 unfolding startTable tableOf padded

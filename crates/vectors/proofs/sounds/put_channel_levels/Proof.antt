@@ -7,7 +7,9 @@ use Rattle.vectors.proofs.sounds.put_channel_levels.Statement.{statemen
 use Rattle.vectors.proofs.sounds.put_channel_levels.Tie as tie
 
 put-gains-requires : tie.Need-put-gains-requires
-put-gains-requires c κs = let x = c .before .before .before .args .c in numbers (x .expression) (x .volume) (x .pan) (c .channel-gains .result) (c .channel-gains .ensures)
+put-gains-requires c κs =
+    let x = c .before .before .before .args .c in
+    numbers (x .expression) (x .volume) (x .pan) (c .channel-gains .result) (c .channel-gains .ensures)
 
 returns : tie.Need-returns
 returns c = search needs

@@ -15,7 +15,8 @@ use Rattle.vectors.proofs.sounds.put_gains.Tie as tie
 abbrev Numbers : GainsAnswer → Type 0
 Numbers a = T (not (isNan (gainsIn a .left))) × T (not (isNan (gainsIn a .right)))
 
-of-gains : (a : GainsAnswer) (g : Gains) → a ≡ GainsAre g → Numbers a → T (not (isNan (g .left))) × T (not (isNan (g .right)))
+of-gains : (a : GainsAnswer) (g : Gains) → a ≡ GainsAre g
+    → Numbers a → T (not (isNan (g .left))) × T (not (isNan (g .right)))
 of-gains a g h n = subst Numbers h n
 
 float-to-bits-put-both : tie.Need-float-to-bits-put-both

@@ -7,7 +7,9 @@ use Rattle.vectors.proofs.sounds.put_levels.Statement.{statement}
 use Rattle.vectors.proofs.sounds.put_levels.Tie as tie
 
 put-gains-requires : tie.Need-put-gains-requires
-put-gains-requires c κs = let a = c .before .before .before .args in numbers (a .expression) (a .volume) (a .pan) (c .gains-of .result) (c .gains-of .ensures)
+put-gains-requires c κs =
+    let a = c .before .before .before .args in
+    numbers (a .expression) (a .volume) (a .pan) (c .gains-of .result) (c .gains-of .ensures)
 
 returns : tie.Need-returns
 returns c = search needs
