@@ -48,7 +48,7 @@ def function_at(source, place):
     for line in source.split("\n"):
         head = re.match(r"impl (\w+) \{$", line)
         owner = head.group(1) + "/" if head else owner
-        head = re.match(r'(\s*)(?:pub )?(?:extern "C" )?fn (\w+)', line)
+        head = re.match(r'(\s*)(?:pub(?:\(\w+\))? )?(?:extern "C" )?fn (\w+)', line)
         if head:
             found, body = (owner if head.group(1) else "") + head.group(2), False
         if at + len(line) >= place:
