@@ -48,7 +48,7 @@
  * called under.
  *
  * The machine. libmuntinorris.a is for programs on x86-64 Linux, on any such processor. It is some 31 KB of code and
- * constants, has no data, and calls memcpy and memset of the C library and nothing else. A byte takes up to some 2.5 KB
+ * constants, has no data, and calls memcpy and memset of the C library and nothing else. A byte takes up to some 3 KB
  * of stack, a report 1.5 KB; calls that take more say so below, and docs/PERFORMANCE.md has all figures.
  *
  * Channels are 1 to 16, as musicians count them; the wire carries the channel minus 1. What the device does is written
