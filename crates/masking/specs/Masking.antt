@@ -1,4 +1,4 @@
--- R2.8: what is busy on a channel that a new table masks is released; R2.9: all else stays.
+-- R2.8: what is busy on a channel that the new table masks, and the old one did not, is released; R2.9: all else stays.
 use Prim.Native.Nat.{ℕ}
 use mathlib.Core.Bool.{Bool, _&&_, not}
 use Rattle.loops.specs.Cases.{if_then_else_}
