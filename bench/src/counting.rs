@@ -16,7 +16,7 @@ enum Target {
     Theft,
     /// A byte that completes nothing at most 100.
     NothingCompleted,
-    /// Any single byte at most 15,000.
+    /// Any single byte, and a start, at most 15,000.
     SingleByte,
     /// A pitch at most 100.
     Pitch,
@@ -46,7 +46,16 @@ extern "C" fn bench_mark() {
     black_box(());
 }
 
+/// P of the starts that are counted.
+const STARTS: [(&str, u8); 2] = [("start, P 64", 64), ("start, number 1", 0)];
+
 pub fn run<S: Subject>() {
+    for (name, polyphony) in STARTS {
+        bench_mark();
+        black_box(S::start(black_box(polyphony)));
+        bench_mark();
+        print_line(name, 1, Target::SingleByte);
+    }
     for case in nothing_completed().into_iter().chain(messages()) {
         count::<S>(64, &case);
     }

@@ -24,11 +24,9 @@ const BLANK: Entry = Entry {
     value: 0,
 };
 
-// The channels by falling priority at the start.
-const START_ORDER: [u8; 16] = [10, 1, 2, 3, 4, 5, 6, 7, 8, 9, 11, 12, 13, 14, 15, 16];
-
 impl Table {
-    // The starting table: all sixteen values are P.
+    // The starting table: channel 10 first, then the others by number, so that places 1 to 9 have their own number and
+    // those behind them one more; all sixteen values are P.
     pub fn start(polyphony: u8) -> Self
         ensures { λ r. ⌜ r ≡ startTable polyphony ⌝ }
     {
@@ -36,7 +34,7 @@ impl Table {
         let mut i: usize = 0;
         while i < 16 {
             entries[i] = Entry {
-                channel: START_ORDER[i],
+                channel: loops::if_else(i == 0, 10, i as u8 + loops::one(9 < i)),
                 value: polyphony,
             };
             i += 1;

@@ -1,15 +1,19 @@
 -- `table::Table::start` meets its contract. Invariant: the array has the first i entries of the starting table, and
--- zeros.
+-- zeros. A turn puts the formula's channel (Start) at its place.
 -- Assumes nothing.
-use Prim.Native.Nat.{ℕ, _≤_, _-_}
-use mathlib.Core.Path.{_≡_, refl, sym, ap}
+use Prim.Native.Nat.{ℕ, _+_, _≤_, _-_}
+use mathlib.Core.Path.{_≡_, refl, sym, ap, _∙_}
 use mathlib.Core.List.{List, map}
 use native.Mathlib.Omega.{arith}
+use borrow.Author.Needs.{needs}
+use lib.Dec.{eqb}
 use lib.ListN.{length, take, length-set, List·getD-map}
+use Rattle.loops.specs.Cases.{if_then_else_}
 use Rattle.loops.specs.Passes.{padded}
 use Rattle.table.specs.declared.Entry.{Entry}
 use Rattle.table.specs.Table.{entry, tableOf, startOrder, startTable}
 use Rattle.table.proofs.Places.{places-turn}
+use Rattle.table.proofs.Start.{startChannel, start-channel}
 use Rattle.table.proofs.Table.start.Statement.{statement}
 use Rattle.table.proofs.Table.start.Tie as tie
 
@@ -27,29 +31,17 @@ loop-holds : tie.Need-loop-holds Inv-loop μ-loop
 unfolding padded
 loop-holds c = (omega arith, refl, refl)
 
-array-read-t9 : tie.Need-array-read-t9 Inv-loop μ-loop
-array-read-t9 c = omega arith
-
-mul-entries : tie.Need-mul-entries Inv-loop μ-loop
-mul-entries c = omega arith
-
-array-set-from-entries : tie.Need-array-set-from-entries Inv-loop μ-loop
-array-set-from-entries c = omega arith
-
-add-i : tie.Need-add-i Inv-loop μ-loop
-add-i c = omega arith
-
-loop-less : tie.Need-loop-less Inv-loop μ-loop
-loop-less c = omega arith
-
 loop-again : tie.Need-loop-again Inv-loop μ-loop
 loop-again c =
-    let l = c .before .loop in
-    let p = c .before .before .args .polyphony in (
+    let l = c .before .before .before .loop in
+    let p = c .before .before .before .before .args .polyphony in
+    let formula : c .if-else .result ≡ startChannel (l .i) =
+    c .if-else .ensures ∙ ap (λ (b : ℕ). if eqb (l .i) 0 then 10 else l .i + b) (c .before .one .ensures .0) in (
       omega arith,
       simp length-set (omega arith),
-      places-turn (wanted p) (entry 0 p) (l .i) (l .entries) _ (omega arith)
-          (omega arith) (l .inv .2) (sym (List·getD-map (λ (c : ℕ). entry c p) startOrder (l .i) 0)),
+      places-turn (wanted p) (entry 0 p) (l .i) (l .entries) _ (omega arith) (omega arith) (l .inv .2)
+          (ap (λ (c : ℕ). entry c p) (formula ∙ start-channel (l .i) (omega arith))
+          ∙ sym (List·getD-map (λ (c : ℕ). entry c p) startOrder (l .i) 0)),
     )
 
 returns : tie.Need-returns Inv-loop μ-loop
@@ -66,10 +58,13 @@ start-spec =
     Inv-loop
     μ-loop
     loop-holds
-    array-read-t9
-    mul-entries
-    array-set-from-entries
-    add-i
-    loop-less
+    (λ c. search needs)
+    (λ c. search needs)
+    (λ c. search needs)
+    (λ c. search needs)
+    (λ c. search needs)
+    (λ c. search needs)
+    (λ c. search needs)
+    (λ c. search needs)
     loop-again
     returns)
