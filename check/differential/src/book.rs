@@ -6,6 +6,9 @@ use crate::drums::{excludes, DRUM_CHANNEL};
 use crate::split::Message;
 use paper::{most_thefts, Answer, MOST_GENERATORS};
 
+/// The starting order, channels from 1 (R2.6). It is written out: what works it out is held against it.
+pub const STARTING_ORDER: [u8; 16] = [10, 1, 2, 3, 4, 5, 6, 7, 8, 9, 11, 12, 13, 14, 15, 16];
+
 #[derive(Clone, Copy, Debug, PartialEq, Eq)]
 pub struct Note {
     /// The channel minus 1.
@@ -72,13 +75,14 @@ pub enum Seen {
 impl Book {
     /// The fresh book (R9.4).
     pub fn fresh(polyphony: u8, id: u8, slip: Option<Slip>) -> Book {
-        let order = [10, 1, 2, 3, 4, 5, 6, 7, 8, 9, 11, 12, 13, 14, 15, 16];
         Book {
             polyphony,
             id,
             notes: [None; MOST_GENERATORS],
             hold: [0; 16],
-            table: order.map(|channel| (channel - 1, polyphony)).to_vec(),
+            table: STARTING_ORDER
+                .map(|channel| (channel - 1, polyphony))
+                .to_vec(),
             slip,
         }
     }

@@ -16,7 +16,11 @@ use wrong::Fault;
 const WITHIN: u64 = 1_000_000;
 
 /// Mistakes that both sides make alike: the comparison cannot see them, the claims must.
-const SHARED: [(&str, &str); 9] = [
+const SHARED: [(&str, &str); 13] = [
+    ("StartingOrderByChannel", "channel 10 never had more"),
+    ("StartingOrderBeginsWithOne", "yet its note-on"),
+    ("StartingOrderHasTenTwice", "demand 3"),
+    ("StartingOrderLacksEleven", "although a generator was free"),
     ("ReportIgnored", "the book has"),
     ("DrumNoteOffHeard", "the book has"),
     ("MaskedGeneratorsGoOn", "the book has"),

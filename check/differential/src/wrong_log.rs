@@ -2,6 +2,7 @@
 //! what is answered, and the call for a whole log.
 
 use crate::arranging_sides::{arranged_of, kept, number_of, Arranger, Heard, LogRecord};
+use crate::book::STARTING_ORDER;
 use crate::record::Given;
 use crate::wrong_device;
 use paper::{Arranged, Event, Number, LINE_BYTES};
@@ -133,8 +134,6 @@ pub const RECORD_SLIPS: &[(&str, Slip)] = &[
     ("MostZeroedByANumber", Slip::Fallen(|log, _| log.most = [0; 16])),
     ("WholeOnTheDeviceOfTheLog", Slip::WholeBegun(|log, lent| log.device = lent.device)),
 ];
-
-const STARTING_ORDER: [u8; 16] = [10, 1, 2, 3, 4, 5, 6, 7, 8, 9, 11, 12, 13, 14, 15, 16];
 
 /// Where the order is wrong, a number of the log decides, if there is one.
 fn log_before_order(answer: &mut MipAnswer, log: &[u8]) {

@@ -17,9 +17,6 @@ pub struct Entry {
 /// The share of a channel that has none.
 const MASKED: u8 = 255;
 
-/// R2.6: the order at the start.
-const STARTING_ORDER: [u8; 16] = [9, 0, 1, 2, 3, 4, 5, 6, 7, 8, 10, 11, 12, 13, 14, 15];
-
 #[derive(Clone, Copy, Debug)]
 pub struct Table {
     entries: [Entry; 16],
@@ -33,8 +30,8 @@ pub struct Table {
 impl Table {
     /// The starting table (R2.6): all sixteen channels with value P.
     pub(crate) fn starting(polyphony: u8) -> Table {
-        let entries = STARTING_ORDER.map(|channel| Entry {
-            channel,
+        let entries = std::array::from_fn(|place| Entry {
+            channel: starting_channel(place as u8),
             value: polyphony,
         });
         Table::new(entries, 16, polyphony)
@@ -107,5 +104,15 @@ impl Table {
     /// The entries, by falling priority.
     pub fn entries(&self) -> &[Entry] {
         &self.entries[..usize::from(self.length)]
+    }
+}
+
+/// R2.6: the channel at this place of the starting table, from 0. Channel 10 goes first, so that 1 to 9 stand one place
+/// further back than by number. Three cases: a table of sixteen would have to be compared entry by entry.
+fn starting_channel(place: u8) -> u8 {
+    match place {
+        0 => 9,
+        1..=9 => place - 1,
+        _ => place,
     }
 }

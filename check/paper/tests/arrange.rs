@@ -7,8 +7,7 @@ use common::*;
 use paper::{mip_from_log, Answer, Arranged, Device, Event, Log, Number, State};
 use random::Random;
 
-/// The order of a fresh table, and another one.
-const ORDER: [u8; 16] = [10, 1, 2, 3, 4, 5, 6, 7, 8, 9, 11, 12, 13, 14, 15, 16];
+/// Another order than the starting one.
 const BY_CHANNEL: [u8; 16] = [1, 2, 3, 4, 5, 6, 7, 8, 9, 10, 11, 12, 13, 14, 15, 16];
 
 fn line(event: Event) -> String {
@@ -148,7 +147,7 @@ fn a_message_by_hand() {
     // Two notes on channel 1, three on 3 of which one is off again, a drum on the pedal of none.
     let words = "90 3C 40 40 40 92 3C 40 40 40 40 00 43 40 99 24 40";
     assert_eq!(values(words), rising(&[2, 2, 4, 4, 4, 4, 4, 4, 4, 5]));
-    let arranged = mip_from_log(&ORDER, log(words).as_bytes());
+    let arranged = mip_from_log(&STARTING_ORDER, log(words).as_bytes());
     let expected = "F0 7F 7F 0B 01 09 01 00 03 01 03 02 05 03 05 04 05 05 05 06 05 07 05 08 05 \
                     0A 05 0B 05 0C 05 0D 05 0E 05 0F 05 F7";
     assert_eq!(
@@ -354,9 +353,9 @@ fn an_order_that_is_not_all_sixteen_channels_once() {
         assert!(refused(&doubled));
     }
     for (at, other) in (0..16).flat_map(|at| (0..=255).map(move |other| (at, other))) {
-        let mut order = ORDER;
+        let mut order = STARTING_ORDER;
         order[at] = other;
-        assert_eq!(refused(&order), order != ORDER, "{order:?}");
+        assert_eq!(refused(&order), order != STARTING_ORDER, "{order:?}");
     }
 }
 
@@ -496,7 +495,7 @@ fn a_log_may_be_cut_anywhere() {
         if random.one_in(2) && !bytes.is_empty() {
             bytes.truncate(random.below(bytes.len()));
         }
-        let (mut whole, mut log) = (Log::begin(&ORDER), Log::begin(&ORDER));
+        let (mut whole, mut log) = (Log::begin(&STARTING_ORDER), Log::begin(&STARTING_ORDER));
         whole.part(&bytes);
         let mut left = &bytes[..];
         while !left.is_empty() {
@@ -548,7 +547,7 @@ fn a_number_leaves_what_was_before_its_line() {
 fn lines_are_told_up_to_the_largest_number() {
     let most = u64::MAX;
     let at = |lines: u64, bytes: &str| {
-        let mut log = Log::begin(&ORDER).behind(lines);
+        let mut log = Log::begin(&STARTING_ORDER).behind(lines);
         log.part(bytes.as_bytes());
         log.end().line
     };

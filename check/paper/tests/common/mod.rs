@@ -1,7 +1,10 @@
-//! What the test files share: feeding bytes, and a record that can be compared and printed.
+//! What the test files share: the starting order, feeding bytes, and a record that can be compared and printed.
 #![allow(dead_code)]
 
 use paper::{Answer, Device, Entry, GeneratorView, Number, Progress, State, Was};
+
+/// The starting order, channels from 1 (R2.6). It is written out: what works it out is held against it.
+pub const STARTING_ORDER: [u8; 16] = [10, 1, 2, 3, 4, 5, 6, 7, 8, 9, 11, 12, 13, 14, 15, 16];
 
 /// A device that started well.
 pub fn start(polyphony: u8, id: u8) -> Device {
