@@ -23,8 +23,8 @@
  * So keep a copy of instrument.generators.state, all MUNTINORRIS_STATE_IDLE behind a start, and compare it after these
  * two answers, from generator 0 to polyphony - 1:
  *
- *     it was not releasing and is    release it: its key came up, the pedal was lifted, controller 123 or a mask ended
- *                                    it, or its key was struck again (step 2 of a note-on)
+ *     it was not releasing and is    release it: its key came up, the pedal was lifted, one of the controllers 123 to
+ *                                    127 or a mask ended it, or its key was struck again (step 2 of a note-on)
  *     it was not idle and is         mute it at once: controller 120, a reset, another drum of its group (step 3), or
  *                                    the report that you have just made
  *     it was held and is sustained   nothing: it sounds on
@@ -38,8 +38,13 @@
  *
  * Reports. Call muntinorris_report when a sound has ended, a released one or a drum, but not one that you muted or cut
  * off. Drums above all: a drum's note-off changes nothing, so that its generator stays busy, and counts for its
- * channel, until its end is reported, its key or another of its group is struck, it is stolen, or controller 120 or
- * 123, a mask or a reset ends it. A releasing generator that is not reported is taken again only where none is idle.
+ * channel, until its end is reported, its key or another of its group is struck, it is stolen, or one of the
+ * controllers 120 and 123 to 127, a mask or a reset ends it. A releasing generator that is not reported is taken again
+ * only where none is idle.
+ *
+ * Modes. The device has one, in which every channel plays its own notes, as many as there is room for. Controllers 124
+ * to 127 (omni off and on, mono, poly) leave it so; they end the notes of their channel as 123 does, whatever their
+ * value. 120, 121 and 123 act with value 0 only. Rules R6.10 to R6.13.
  *
  * A report names a generator and not a note. One that comes late, when the generator has a new note already, ends the
  * NEW note and answers MUNTINORRIS_DONE; number 13 comes only where it is idle. So count the notes that were begun on

@@ -224,6 +224,7 @@ fn notes(full: &[u8], drums: &[u8]) -> Vec<Case> {
             0,
         ),
         last("123 with 64 held", followed(full.to_vec(), &[0xB0, 123]), 0),
+        last("126 with 64 held", followed(full.to_vec(), &[0xB0, 126]), 1),
     ]
 }
 
@@ -234,8 +235,13 @@ fn pedals(full: &[u8]) -> Vec<Case> {
     vec![
         last(
             "123 with 64 held, pedal down",
-            followed(pedal_down, &[123]),
+            followed(pedal_down.clone(), &[123]),
             0,
+        ),
+        last(
+            "126 with 64 held, pedal down",
+            followed(pedal_down, &[126]),
+            1,
         ),
         last(
             "pedal up with 64 sustained",

@@ -103,6 +103,19 @@ fn states_of_a_generator() {
     assert_eq!(state(&device), Ok(State::Releasing));
 }
 
+/// A keyboard holds a chord and changes its mode: the chord ends, and the next one finds its generators (R6.12).
+#[test]
+fn a_mode_message_ends_notes() {
+    for (number, value) in (124..128).flat_map(|number| [(number, 0), (number, 1), (number, 127)]) {
+        let (mut device, _) = Device::start(2, 0);
+        play(&mut device, &[0x90, 60, 64, 64, 64]);
+        assert_eq!(play(&mut device, &[0xB0, number, value]), [Answer::Done]);
+        assert!((0..2).all(|g| device.generator(g).map(|g| g.state) == Ok(State::Releasing)), "{number} {value}");
+        let next = play(&mut device, &[0x90, 62, 64, 65, 64]);
+        assert_eq!(next, [note(1, 62, 0, Was::Release), note(1, 65, 1, Was::Release)], "{number} {value}");
+    }
+}
+
 /// The record that a caller may read, after calls that put a different number in each place that is looked at.
 #[test]
 fn the_record_is_readable() {

@@ -2,7 +2,7 @@
 -- ends (R6.7, R6.10 to R6.12).
 use Prim.Native.Nat.{ℕ}
 use mathlib.Core.Bool.{Bool, _&&_, _||_}
-use lib.Dec.{eqb, ltb}
+use lib.Dec.{eqb, ltb, leb}
 use Rattle.loops.specs.Cases.{if_then_else_, atMost}
 use Rattle.channels.specs.declared.Channel.{Channel}
 
@@ -48,8 +48,8 @@ reset c =
 unfoldable pub controlled : Channel → ℕ → ℕ → Channel
 controlled c n v = if eqb n 121 && eqb v 0 then reset c else stored c n v
 
--- the controllers that end notes: R6.7, R6.11: hold below 64 and 121 lift the pedal; R6.10: 120 silences; R6.12: 123
--- is a note-off for each key
+-- the controllers that end notes: R6.7, R6.11: hold below 64 and 121 lift the pedal; R6.10: 120 silences; R6.12: 123,
+-- and whatever their value 124 to 127, are a note-off for each key
 abbrev pub liftsPedal : ℕ → ℕ → Bool
 liftsPedal n v = eqb n 64 && ltb v 64 || eqb n 121 && eqb v 0
 
@@ -57,4 +57,4 @@ abbrev pub silencesAll : ℕ → ℕ → Bool
 silencesAll n v = eqb n 120 && eqb v 0
 
 abbrev pub endsAll : ℕ → ℕ → Bool
-endsAll n v = eqb n 123 && eqb v 0
+endsAll n v = eqb n 123 && eqb v 0 || leb 124 n && leb n 127

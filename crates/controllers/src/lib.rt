@@ -79,9 +79,10 @@ pub fn silences_all(n: u8, v: u8) -> bool
     (n == 120) & (v == 0)
 }
 
-// Whether it is a note-off for each key of the channel: All Notes Off.
+// Whether it is a note-off for each key of the channel: All Notes Off, and with any value the four that elsewhere
+// change the mode, Omni Mode Off and On, Mono Mode On and Poly Mode On.
 pub fn ends_all(n: u8, v: u8) -> bool
     ensures { λ r. ⌜ r ≡ endsAll n v ⌝ }
 {
-    (n == 123) & (v == 0)
+    ((n == 123) & (v == 0)) | ((124 <= n) & (n <= 127))
 }

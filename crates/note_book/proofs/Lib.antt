@@ -10,3 +10,4 @@ pub mod Age
 pub mod Bytes
 pub mod Demand3
 pub mod Witness
+pub mod ModeMessages

@@ -23,8 +23,8 @@ notesAfter pedal c n v s =
     if endsAll n v then changed (AllNotesOff pedal c) s else
     s
 
--- R6.14: a controller, of any channel: its numbers and its notes; R6.12: on a rhythm channel 123 releases, whatever the
--- pedal
+-- R6.14: a controller, of any channel: its numbers and its notes; R6.12: on a rhythm channel all notes off releases,
+-- whatever the pedal
 unfoldable pub playControl : Instrument → ℕ → ℕ → ℕ → Instrument
 playControl i c n v =
     withGenerators (withChannel i c (controlled (channelOf i c) n v))

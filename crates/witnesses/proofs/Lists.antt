@@ -1,6 +1,6 @@
--- Demand 3 bites, in short lists: a drum is served, an idle generator is given, a theft that is allowed, and runs
--- that bring a drum along. What stood there before is computed from the definitions; what becomes of the last note
--- `demand-3` alone says.
+-- Demand 3 bites, in short lists: a drum is served, an idle generator is given, and so is one whose note a mode message
+-- has ended; a theft that is allowed, and runs that bring a drum along. What stood there before is computed from the
+-- definitions; what becomes of the last note `demand-3` alone says.
 -- Assumes nothing.
 use mathlib.Core.Path.{_≡_, refl}
 use mathlib.Core.Bool.{Bool, true, false, false≢true}
@@ -20,7 +20,10 @@ use Rattle.silence.specs.Silence.{isAmong, leaves, silenced}
 use Rattle.candidates.specs.Candidates.{lowestIdle, wanted, oldest, busyCount}
 use Rattle.stealing.specs.Stealing.{overShare, stealFrom, victim}
 use Rattle.allocation.specs.Allocation.{cleared, choice, noteOn}
-use Rattle.instrument.specs.Instrument.{fresh, isRhythm}
+use Rattle.instrument.specs.Instrument.{fresh, isRhythm, withChannel}
+use Rattle.controllers.specs.Controllers.{controlled}
+use Rattle.controllers.specs.Controllers as of-controllers
+use Rattle.other_messages.specs.OtherMessages.{notesAfter, playControl}
 use Rattle.playing.specs.Playing.{playNoteOn, played}
 use Rattle.device.specs.Device.{started, heard, byteTaken}
 use Rattle.events.specs.declared.Event.{Event}
@@ -76,6 +79,30 @@ idle-generator-given = go (isLoss (first .book) 1 60 (Live .answer first (Byte 6
         → IsGiven (Live .answer first (Byte 64))
     go true e = absurd (false≢true (demand-3 1 0 (Byte 0x90 ∷ Byte 60 ∷ Byte 64 ∷ []) .fair .1 .1 .0 e 0 1-of-1 .0))
     go false e = not-lost (first .book) 1 60 (Live .answer first (Byte 64)) refl e
+
+-- ---- P 1, a note held on channel 1, and the keyboard changes its mode: the next note of channel 1 is given the
+-- generator, and steals nothing, since controller 126 has taken the first one out of the book
+
+abbrev new-mode : Both
+new-mode =
+    after Live (begin 1 0)
+    (Byte 0x90 ∷ Byte 60 ∷ Byte 64 ∷ Byte 0xB0 ∷ Byte 126 ∷ Byte 1 ∷ Byte 0x90 ∷ Byte 64 ∷ [])
+
+pub given-behind-126 : IsGiven (Live .answer new-mode (Byte 64))
+unfolding upTo total filterBy firstOf padded begun stored oneDataByte completed dataByte opened ended statusByte
+    split decode tableOf startTable sharesFrom lookup shareOf groupOf excludes agesOf newest assigned silent
+    changes stateAfter changed isAmong leaves silenced lowestIdle cleared choice noteOn fresh isRhythm playNoteOn
+    played playControl notesAfter controlled of-controllers.stored withChannel
+    started heard byteTaken taken keepMessage keep after
+given-behind-126 = go (isLoss (new-mode .book) 1 64 (Live .answer new-mode (Byte 64))) refl
+  where
+    go : (l : Bool) → isLoss (new-mode .book) 1 64 (Live .answer new-mode (Byte 64)) ≡ l
+        → IsGiven (Live .answer new-mode (Byte 64))
+    go true e =
+        absurd (false≢true (demand-3 1 0
+            (Byte 0x90 ∷ Byte 60 ∷ Byte 64 ∷ Byte 0xB0 ∷ Byte 126 ∷ Byte 1 ∷ Byte 0x90 ∷ Byte 64 ∷ Byte 64 ∷ [])
+            .fair .1 .1 .1 .1 .1 .1 .1 .1 .0 e 0 1-of-1 .0))
+    go false e = not-lost (new-mode .book) 1 64 (Live .answer new-mode (Byte 64)) refl e
 
 -- ---- P 1, a note held on channel 1: a drum steals it
 
