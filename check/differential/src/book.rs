@@ -28,6 +28,7 @@ pub enum Slip {
     ResetControllers,
     AllSoundOff,
     AllNotesOff,
+    ModeMessages,
     Report,
     NewTable,
     Reset,
@@ -36,7 +37,7 @@ pub enum Slip {
     ThreeBytesANote,
 }
 
-pub const SLIPS: [Slip; 10] = [
+pub const SLIPS: [Slip; 11] = [
     Slip::NoteOff,
     Slip::SameKey,
     Slip::Group,
@@ -44,6 +45,7 @@ pub const SLIPS: [Slip; 10] = [
     Slip::ResetControllers,
     Slip::AllSoundOff,
     Slip::AllNotesOff,
+    Slip::ModeMessages,
     Slip::Report,
     Slip::NewTable,
     Slip::Reset,
@@ -173,6 +175,9 @@ impl Book {
                 }
             }
             (0xB, [123, 0]) if !self.forgets(Slip::AllNotesOff) => self.all_notes_off(channel),
+            (0xB, [124..=127, _]) if !self.forgets(Slip::ModeMessages) => {
+                self.all_notes_off(channel);
+            }
             _ => {}
         }
         Seen::Ordinary
@@ -203,6 +208,7 @@ impl Book {
         }
     }
 
+    /// R9.13: on channel 10 they leave, whatever the hold.
     fn all_notes_off(&mut self, channel: u8) {
         if channel == DRUM_CHANNEL {
             self.drop_notes(|note| note.channel == channel && note.down);

@@ -8,7 +8,7 @@ use crate::lists::{Event, Kind, List};
 use crate::pages::{self, Pages};
 use crate::record::{difference, Given, Implementation, Malformed, Record};
 use crate::tally::Tally;
-use paper::{Answer, Number};
+use paper::{Answer, Number, Progress};
 use random::Random;
 use std::fmt;
 
@@ -150,11 +150,7 @@ where
         for &event in &list.events {
             reached.events += 1;
             let answer = same("answer", happen(&mut a, event), happen(&mut b, event))?;
-            reached.tally.answer(answer);
-            if let (Event::Report(generator), Answer::Done) = (event, answer) {
-                let reported = record.generators[usize::from(generator)];
-                reached.tally.report(reported.state);
-            }
+            count(&mut reached.tally, event, answer, &record);
             claims.event(event, answer, &mut reached.claims)?;
             record = same_record(&a, &b)?;
             claims.record(&record)?;
@@ -167,6 +163,20 @@ where
             }
         }
         Ok(())
+    }
+}
+
+/// Counts an answer, and what a report or a mode message found in the record before it.
+fn count(tally: &mut Tally, event: Event, answer: Answer, before: &Record) {
+    tally.answer(answer);
+    match (event, answer, before.progress) {
+        (Event::Report(generator), Answer::Done, _) => {
+            tally.report(before.generators[usize::from(generator)].state);
+        }
+        (Event::Byte(0..=127), _, Progress::StatusAndData(status @ 0xB0..=0xBF, 124..=127)) => {
+            tally.mode_message(status & 0x0F, before);
+        }
+        _ => {}
     }
 }
 

@@ -231,8 +231,11 @@ impl Musician<'_> {
 
     fn controller(&mut self) {
         let channel = self.channel();
-        let number = self.random.pick(&[1, 7, 10, 11, 120, 121, 123, 126]);
-        let value = self.random.pick(&[0, 0, 64]);
+        let number = match self.random.below(2) {
+            0 => self.random.pick(&[1, 7, 10, 11]),
+            _ => 120 + self.random.below(8) as u8,
+        };
+        let value = self.random.pick(&[0, 0, 1, 64]);
         self.message(0xB0 | channel, &[number, value]);
     }
 

@@ -110,6 +110,9 @@ fn greedy(random: &mut Random, polyphony: u8) -> Vec<u8> {
     list
 }
 
+/// Controllers that let notes go, with value 0.
+const LET_GO: [u8; 8] = [64, 120, 121, 123, 124, 125, 126, 127];
+
 /// Mostly a note by running status; also notes of other channels, what lets them go, pedals, tables and resets.
 fn some_message(random: &mut Random, polyphony: u8) -> Vec<u8> {
     let (channel, key) = (random.below(3) as u8, random.data());
@@ -118,7 +121,7 @@ fn some_message(random: &mut Random, polyphony: u8) -> Vec<u8> {
         0 => vec![0x90 | channel, key, 64],
         1 => vec![0x99, key, 64],
         2 => vec![0x80 | channel, key, 64],
-        3 => vec![0xB0 | channel, random.pick(&[64, 120, 121, 123]), 0],
+        3 => vec![0xB0 | channel, random.pick(&LET_GO), 0],
         4 => vec![0xB0 | channel, 64, 127],
         5 => vec![0xF0, 0x7F, 0x7F, 0x0B, 0x01, channel, value, 0xF7],
         6 => vec![0xF0, 0x7F, 0, 0x0B, 0x01, channel, 0, 9, value, 0xF7],

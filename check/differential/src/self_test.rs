@@ -32,6 +32,37 @@ const SHARED: [(&str, &str); 13] = [
     ("SilentKeepsAge", "order of age: it has"),
 ];
 
+/// Such mistakes about what controllers 120 to 127 end: of each the book has other notes.
+const SHARED_MODE: [&str; 27] = [
+    "ValueZeroNotNeeded",
+    "AllNotesOffWithAnyValue",
+    "AllNotesOffIgnoresPedal",
+    "DrumHoldHonoured",
+    "LocalControlEndsNotes",
+    "ModeMessagesIgnored",
+    "OmniOffIgnored",
+    "OmniOnIgnored",
+    "MonoIgnored",
+    "PolyIgnored",
+    "AllButMonoIgnored",
+    "ModeMessagesWithZeroAlone",
+    "AllButMonoWithZeroAlone",
+    "MonoWithZeroAlone",
+    "MonoOfMoreThanSixteenChannelsIgnored",
+    "ModeMessagesSilence",
+    "ModeMessagesIgnorePedal",
+    "ModeMessagesHonourDrumHold",
+    "ModeMessagesLiftPedal",
+    "ModeMessagesEndSustained",
+    "ModeMessagesWithPedalUpAlone",
+    "ModeMessagesSpareDrums",
+    "ModeMessagesOnChannel1Alone",
+    "ModeMessagesOnAllChannels",
+    "OmniOnForAllChannels",
+    "MonoForAsManyChannels",
+    "MonoKeepsNewest",
+];
+
 /// A wrong variant: by a fault of paper's rules, by a slip beside them, or by both.
 #[derive(Clone, Copy)]
 pub struct Variant<Slip> {
@@ -75,7 +106,8 @@ pub fn run(seed: u64) -> Vec<String> {
     for variant in &devices {
         complaints.extend(expect(variant.name, "", one_side(variant, seed)));
     }
-    for (name, claim) in SHARED {
+    let shared_mode = SHARED_MODE.map(|name| (name, "the book has"));
+    for (name, claim) in SHARED.into_iter().chain(shared_mode) {
         let variant = devices.iter().find(|variant| variant.name == name);
         let found = variant.and_then(|variant| both_sides(variant, seed));
         complaints.extend(expect(&format!("{name} on both sides"), claim, found));

@@ -1,5 +1,7 @@
-//! Counts what was reached: every kind of answer and every number must be.
+//! Counts what was reached: every kind of answer and every number must be, and what reports and mode messages can find.
 
+use crate::drums::DRUM_CHANNEL;
+use crate::record::Record;
 use paper::{Answer, Number, State, Was};
 use std::fmt;
 
@@ -15,6 +17,13 @@ const REPORTS: [&str; 3] = [
     "report of a held one",
     "report of a sustained one",
     "report of a releasing one",
+];
+
+const MODE_MESSAGES: [&str; 4] = [
+    "124 to 127, pedal up",
+    "124 to 127, pedal down",
+    "124 to 127 on 10, pedal up",
+    "124 to 127 on 10, pedal down",
 ];
 
 /// Numbers 1 to 14, each one place before its own, and those of pitches, gains, songs, logs and pages behind them.
@@ -50,6 +59,8 @@ pub struct Tally {
     kinds: [u64; 5],
     /// Accepted reports, by what the generator was.
     reports: [u64; 3],
+    /// Mode messages that found a held generator on their channel, those to channel 10 apart.
+    mode_messages: [u64; 4],
     /// Numbers that starts, bytes and reports answered.
     numbers: [u64; PLACES],
     /// Numbers that queries, pitches, gains, songs, logs and pages gave, apart: 1 and 12 have both.
@@ -84,6 +95,17 @@ impl Tally {
         }
     }
 
+    /// A mode message to a channel on the wire, and the record before it.
+    pub fn mode_message(&mut self, channel: u8, before: &Record) {
+        const HOLD: usize = 5;
+        let mut generators = before.generators.iter();
+        if generators.any(|view| view.state == State::Held && view.channel == channel + 1) {
+            let pedal_down = before.channels[usize::from(channel)][HOLD] >= 64;
+            let drums = channel == DRUM_CHANNEL;
+            self.mode_messages[2 * usize::from(drums) + usize::from(pedal_down)] += 1;
+        }
+    }
+
     pub fn query(&mut self, number: Number) {
         self.queries[number as usize] += 1;
     }
@@ -110,6 +132,7 @@ impl Tally {
         };
         let kinds = KINDS.iter().zip(self.kinds);
         let kinds = kinds.chain(REPORTS.iter().zip(self.reports));
+        let kinds = kinds.chain(MODE_MESSAGES.iter().zip(self.mode_messages));
         let kinds = kinds.map(|(name, count)| (name.to_string(), count));
         let numbers = NUMBERS[..13].iter();
         let numbers = numbers.map(move |&named| row(named, &self.numbers));

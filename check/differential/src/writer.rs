@@ -35,7 +35,7 @@ pub const PLAYING: Mix = &[
     (220, Phrase::NoteOff),
     (30, Phrase::Pedal),
     (10, Phrase::Controller),
-    (6, Phrase::ChannelMode),
+    (10, Phrase::ChannelMode),
     (8, Phrase::ProgramOrPressureOrBend),
     (60, Phrase::Report),
     (4, Phrase::Mip),
@@ -49,7 +49,7 @@ pub const PEDALS: Mix = &[
     (250, Phrase::NoteOff),
     (150, Phrase::Pedal),
     (100, Phrase::Controller),
-    (60, Phrase::ChannelMode),
+    (80, Phrase::ChannelMode),
     (40, Phrase::ProgramOrPressureOrBend),
     (40, Phrase::BendSensitivity),
     (60, Phrase::Report),
@@ -63,6 +63,7 @@ pub const TABLES: Mix = &[
     (80, Phrase::NoteOff),
     (40, Phrase::Pedal),
     (20, Phrase::Controller),
+    (10, Phrase::ChannelMode),
     (40, Phrase::Report),
     (60, Phrase::Mip),
     (30, Phrase::WrongMip),
@@ -226,9 +227,7 @@ impl Writer<'_> {
 
     fn controller(&mut self) {
         let channel = self.channel();
-        let stored = [
-            1, 6, 7, 10, 11, 32, 38, 64, 65, 98, 99, 100, 101, 122, 124, 125, 126, 127,
-        ];
+        let stored = [1, 6, 7, 10, 11, 32, 38, 64, 65, 98, 99, 100, 101, 122];
         let number = match self.random.below(4) {
             0 => self.random.data(),
             _ => self.random.pick(&stored),
@@ -237,12 +236,14 @@ impl Writer<'_> {
         self.message(0xB0 | channel, &[number, value]);
     }
 
+    /// 120 to 127: up to 123 mostly with 0, which counts there; the mode messages with any value, also as a count.
     fn channel_mode(&mut self) {
         let channel = self.channel();
-        let number = self.random.pick(&[120, 121, 123]);
-        let value = match self.random.below(4) {
-            0 => self.random.data(),
-            _ => 0,
+        let number = 120 + self.random.below(8) as u8;
+        let value = match (number, self.random.below(4)) {
+            (_, 0) => self.random.data(),
+            (120..=123, _) => 0,
+            _ => self.random.pick(&[0, 1, 16, 64, 127]),
         };
         self.message(0xB0 | channel, &[number, value]);
     }

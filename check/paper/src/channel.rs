@@ -15,6 +15,8 @@ pub(crate) mod controller {
     pub const ALL_SOUND_OFF: u8 = 120;
     pub const RESET_ALL_CONTROLLERS: u8 = 121;
     pub const ALL_NOTES_OFF: u8 = 123;
+    pub const OMNI_OFF: u8 = 124;
+    pub const POLY_ON: u8 = 127;
 }
 
 /// R6.9: the highest bend sensitivity.

@@ -143,6 +143,13 @@ impl Device {
         }
     }
 
+    /// R6.12: on channel 10 the pedal holds nothing.
+    fn all_notes_off(&mut self, channel: u8) {
+        let pedal_down = self.channels[usize::from(channel)].pedal_down();
+        self.generators
+            .all_keys_up(channel, pedal_down && channel != DRUM_CHANNEL);
+    }
+
     fn controller(&mut self, channel: u8, number: u8, value: u8) {
         let numbers = &mut self.channels[usize::from(channel)];
         match (number, value) {
@@ -151,9 +158,9 @@ impl Device {
                 numbers.reset_controllers();
                 self.generators.pedal_up(channel);
             }
-            (controller::ALL_NOTES_OFF, 0) => {
-                let pedal_down = numbers.pedal_down() && channel != DRUM_CHANNEL;
-                self.generators.all_keys_up(channel, pedal_down);
+            // R6.12: a mode message ends notes whatever its value, 126 whatever its count. The module keeps its mode.
+            (controller::ALL_NOTES_OFF, 0) | (controller::OMNI_OFF..=controller::POLY_ON, _) => {
+                self.all_notes_off(channel);
             }
             _ => {
                 numbers.store(number, value);

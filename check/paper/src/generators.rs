@@ -170,7 +170,7 @@ impl Generators {
         self.let_go(self.with_key(held, key), pedal_down);
     }
 
-    /// 123 (R6.12): each held generator as by its note-off.
+    /// 123 to 127 (R6.12): each held generator as by its note-off.
     pub(crate) fn all_keys_up(&mut self, channel: u8, pedal_down: bool) {
         self.let_go(
             self.held & self.of_channel[usize::from(channel)],

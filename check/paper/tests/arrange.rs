@@ -182,6 +182,16 @@ fn sustained_ones_count_and_releasing_ones_do_not() {
 }
 
 #[test]
+fn what_a_mode_message_ends_counts_no_more() {
+    for number in ["7C", "7D", "7E", "7F"] {
+        let chords = format!("90 3C 40 40 40 43 40 B0 {number} 01 90 48 40 4C 40");
+        assert_eq!(values(&chords), rising(&[3]));
+        // It is still there if it went on the pedal.
+        assert_eq!(values(&format!("B0 40 7F {chords}")), rising(&[5]));
+    }
+}
+
+#[test]
 fn a_report_ends_a_note() {
     assert_eq!(
         values("99 24 40 e0 26 40 e0 24 40"),
@@ -236,6 +246,9 @@ fn a_stolen_note_is_number_17_at_its_last_byte() {
     for more in ["3F 40 3F 40", "3F 00 40 40", "e5 40 40"] {
         assert_eq!(values(&format!("{} {more}", full())), [64; 16]);
     }
+    // Nor is what a mode message let go.
+    let after = format!("{} B0 7E 01 90 40 40", full());
+    assert_eq!(values(&after), [64; 16]);
 }
 
 #[test]
@@ -370,7 +383,7 @@ fn some_music(random: &mut Random, lines: usize) -> Vec<Event> {
             0..=12 => vec![0x90 | channel, key, 64],
             13..=17 => vec![0x80 | channel, key, 64],
             18 => vec![0xB0 | channel, 64, random.pick(&[0, 127])],
-            19 if random.one_in(4) => vec![0xB0 | channel, random.pick(&[120, 121, 123]), 0],
+            19 if random.one_in(4) => some_channel_mode(random, channel),
             20 if random.one_in(8) => vec![0xF0, 0x7E, 0x7F, 0x09, 0x01, 0xF7],
             21 => vec![random.byte() | 0xF8, random.data()],
             _ => {

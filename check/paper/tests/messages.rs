@@ -42,7 +42,7 @@ fn sensitivity_needs_rpn_0_0_and_stops_at_24() {
 #[test]
 fn what_changes_nothing_answers_done() {
     for hex in [
-        "A0 3C 40", "D0 40", "B0 26 01", "B0 78 05", "B0 7B 01", "B0 7C 00", "B0 7F 00",
+        "A0 3C 40", "D0 40", "B0 26 01", "B0 78 05", "B0 7A 00", "B0 7A 7F", "B0 7B 01",
     ] {
         let mut device = start(4, 0);
         feed(&mut device, "90 3C 40");

@@ -130,7 +130,7 @@ fn all_lists_of_all_bytes() {
 }
 
 /// Every kind of status, on channels 1 and 10, with a few data bytes: keys, velocities 0 and above, hold, 123,
-/// programs.
+/// 126, programs.
 #[test]
 fn all_lists_of_every_status() {
     let of_channels = (0x80..=0xE0)
@@ -138,7 +138,7 @@ fn all_lists_of_every_status() {
         .flat_map(|kind| [kind, kind + 9]);
     let alphabet = of_channels
         .chain(0xF0..=0xF8)
-        .chain([0x00, 0x2A, 0x40, 0x7B]);
+        .chain([0x00, 0x2A, 0x40, 0x7B, 0x7E]);
     search(1, &single(alphabet), 7);
 }
 
@@ -152,10 +152,11 @@ fn all_lists_of_notes() {
     }
 }
 
-/// Notes of channel 1 under the pedal, let go by it, by 120, 121 and 123, of these with a value that does nothing too.
+/// Notes of channel 1 under the pedal, let go by it, by 120, 121 and 123, of these with a value that does nothing too,
+/// and by 126, which has no such value.
 #[test]
 fn all_lists_of_pedals_and_mode_messages() {
-    let alphabet = words("90, B0, 00, 01, 40, 78, 79, 7B");
+    let alphabet = words("90, B0, 00, 01, 40, 78, 79, 7B, 7E");
     for (polyphony, most_bytes) in [(1, 13), (2, 11), (3, 9), (4, 11)] {
         search(polyphony, &alphabet, most_bytes);
     }
@@ -182,7 +183,8 @@ fn all_lists_of_bytes_of_a_system_on() {
 fn all_lists_of_notes_and_tables() {
     let alphabet = words(
         "90, 91, 99, 00, 01, 02, 24, F0 7E 7F 09 01 F7, F0 7F 7F 0B 01 00 01 F7, F0 7F 00 0B 01 01 01 F7, \
-         F0 7F 7F 0B 01 01 01 00 02 F7, F0 7F 7F 0B 01 00 01 01 02 09 02 F7, B0 40 7F, B0 7B 00",
+         F0 7F 7F 0B 01 01 01 00 02 F7, F0 7F 7F 0B 01 00 01 01 02 09 02 F7, B0 40 7F, B0 7B 00, \
+         B0 7E 01",
     );
     for (polyphony, most_bytes) in [(1, 24), (2, 12), (3, 10)] {
         search(polyphony, &alphabet, most_bytes);

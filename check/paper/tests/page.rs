@@ -268,52 +268,6 @@ fn two_digits_of_busy_generators() {
     }
 }
 
-/// A random device of any P that has heard this many messages.
-fn some_device(random: &mut Random, messages: usize) -> Device {
-    let polyphony = 1 + random.below(64) as u8;
-    let mut device = start(polyphony, 0);
-    for _ in 0..messages {
-        let channel = random.below(16) as u8;
-        let message = match random.below(12) {
-            0 => some_table(random, polyphony),
-            1 => vec![0xB0 | channel, 64, random.data()],
-            2 => vec![0xB0 | channel, random.pick(&[120, 121, 123]), 0],
-            3 | 4 => vec![0x80 | channel, random.below(12) as u8, 0],
-            _ => vec![0x90 | channel, random.below(12) as u8, 64],
-        };
-        message.into_iter().for_each(|byte| {
-            device.byte(byte);
-        });
-        if random.one_in(8) {
-            device.report(random.below(64) as u8);
-        }
-    }
-    device
-}
-
-/// A MIP message that lists some channels, with values from 0 to beyond P.
-fn some_table(random: &mut Random, polyphony: u8) -> Vec<u8> {
-    let mut channels: Vec<u8> = (0..16).collect();
-    random.shuffle(&mut channels);
-    channels.truncate(1 + random.below(16));
-    let most = random.pick(&[polyphony, polyphony + 1, 127]);
-    let mut values: Vec<u8> = channels
-        .iter()
-        .map(|_| random.below(usize::from(most) + 1) as u8)
-        .collect();
-    values.sort_unstable();
-    let pairs = channels.into_iter().zip(values);
-    let mut message = vec![0xF0, 0x7F, 0x7F, 0x0B, 0x01];
-    message.extend(pairs.flat_map(|(channel, value)| [channel, value]));
-    message.push(0xF7);
-    message
-}
-
-fn random_devices() -> impl Iterator<Item = Device> {
-    let mut random = Random::new(2);
-    (0..2000).map(move |number| some_device(&mut random, number % 200))
-}
-
 #[test]
 fn seventeen_lines_of_18_characters_each_ended_by_0a() {
     assert_eq!(PAGE_BYTES, 323);

@@ -1,6 +1,7 @@
 //! What some faults need that paper does not have.
 
 use crate::answer::Number;
+use crate::generators::Generators;
 use crate::{Device, Event, GeneratorView, Parser, Progress, State};
 
 /// The number of a MIP message whose pairs are judged by number 7 all, then by 8, then by 9.
@@ -15,6 +16,15 @@ pub fn kind_by_kind(pairs: &[u8]) -> Option<Number> {
     }
     let falls = any(&|at| at > 0 && pairs[at][1] < pairs[at - 1][1]);
     falls.then_some(Number::MipValueFalls)
+}
+
+/// The keys that a channel on the wire holds, but for the one that came last.
+pub fn held_before_the_newest(generators: &Generators, channel: u8) -> Vec<u8> {
+    let views = generators.oldest_first().map(|g| generators.view(g));
+    let held = views.filter(|view| view.state == State::Held && view.channel == channel + 1);
+    let mut keys: Vec<u8> = held.map(|view| view.key).collect();
+    keys.pop();
+    keys
 }
 
 /// A weight before it is rounded (R12.4), at any place.
