@@ -100,8 +100,8 @@ given-behind-126 = go (isLoss (new-mode .book) 1 64 (Live .answer new-mode (Byte
         → IsGiven (Live .answer new-mode (Byte 64))
     go true e =
         absurd (false≢true (demand-3 1 0
-            (Byte 0x90 ∷ Byte 60 ∷ Byte 64 ∷ Byte 0xB0 ∷ Byte 126 ∷ Byte 1 ∷ Byte 0x90 ∷ Byte 64 ∷ Byte 64 ∷ [])
-            .fair .1 .1 .1 .1 .1 .1 .1 .1 .0 e 0 1-of-1 .0))
+        (Byte 0x90 ∷ Byte 60 ∷ Byte 64 ∷ Byte 0xB0 ∷ Byte 126 ∷ Byte 1 ∷ Byte 0x90 ∷ Byte 64 ∷ Byte 64 ∷ [])
+        .fair .1 .1 .1 .1 .1 .1 .1 .1 .0 e 0 1-of-1 .0))
     go false e = not-lost (new-mode .book) 1 64 (Live .answer new-mode (Byte 64)) refl e
 
 -- ---- P 1, a note held on channel 1: a drum steals it
