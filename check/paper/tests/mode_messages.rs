@@ -211,22 +211,23 @@ fn by_running_status_between_other_controllers() {
     assert_eq!(states(&device), [Releasing, Held, Sustained]);
 }
 
-#[test]
-fn a_message_that_is_cut_ends_nothing() {
-    for cut in ["B0 7E", "B0 7E F8", "B0 7E F7", "B0 7E B0", "F6 7E 00"] {
+/// None of these ends a note that is held.
+fn none_ends(messages: &[&str]) {
+    for message in messages {
         let mut device = behind("90 3C 40");
-        feed(&mut device, cut);
-        assert_eq!(state(&device, 0), Held, "{cut}");
+        feed(&mut device, message);
+        assert_eq!(state(&device, 0), Held, "{message}");
     }
 }
 
 #[test]
+fn a_message_that_is_cut_ends_nothing() {
+    none_ends(&["B0 7E", "B0 7E F8", "B0 7E F7", "B0 7E B0", "F6 7E 00"]);
+}
+
+#[test]
 fn the_same_bytes_in_other_messages_end_nothing() {
-    for other in ["80 7E 00", "90 7E 00", "A0 7E 00", "C0 7E", "E0 7E 00"] {
-        let mut device = behind("90 3C 40");
-        feed(&mut device, other);
-        assert_eq!(state(&device, 0), Held, "{other}");
-    }
+    none_ends(&["80 7E 00", "90 7E 00", "A0 7E 00", "C0 7E", "E0 7E 00"]);
 }
 
 /// A keyboard holds as many notes as there are, and changes to mono: none hangs, and the next ones need no theft.
