@@ -34,15 +34,21 @@ fn states<const N: usize>(device: &Device) -> [State; N] {
     std::array::from_fn(|generator| state(device, generator as u8))
 }
 
-#[test]
-fn with_the_pedal_up_held_notes_release() {
-    for pedal in ["", "B0 40 00", "B0 40 3F"] {
+/// What each of them, sent to a channel, makes of the first generators behind each of these beginnings and these notes.
+fn each_leaves<const N: usize>(channel: u8, before: &[&str], notes: &str, expected: [State; N]) {
+    for first in before {
         for message in mode_messages() {
-            let mut device = behind(&format!("{pedal} 90 3C 40 40 40"));
-            send(&mut device, 1, message);
-            assert_eq!(states(&device), [Releasing; 2], "{message:?}, {pedal}");
+            let mut device = behind(&format!("{first} {notes}"));
+            send(&mut device, channel, message);
+            assert_eq!(states(&device), expected, "{message:?}, {first}");
         }
     }
+}
+
+#[test]
+fn with_the_pedal_up_held_notes_release() {
+    let pedals = ["", "B0 40 00", "B0 40 3F"];
+    each_leaves(1, &pedals, "90 3C 40 40 40", [Releasing; 2]);
 }
 
 #[test]
@@ -64,23 +70,13 @@ const ONE_OF_EACH: &str = "90 3C 40 3C 00 B0 40 7F 90 40 40 40 00 43 40";
 #[test]
 fn sustained_and_releasing_ones_stay_so() {
     assert_eq!(states(&behind(ONE_OF_EACH)), [Releasing, Sustained, Held]);
-    for message in mode_messages() {
-        let mut device = behind(ONE_OF_EACH);
-        send(&mut device, 1, message);
-        let expected = [Releasing, Sustained, Sustained];
-        assert_eq!(states(&device), expected, "{message:?}");
-    }
+    each_leaves(1, &[ONE_OF_EACH], "", [Releasing, Sustained, Sustained]);
 }
 
 #[test]
 fn drums_release_whatever_their_pedal() {
-    for pedal in ["B9 40 00", "B9 40 7F"] {
-        for message in mode_messages() {
-            let mut device = behind(&format!("{pedal} 99 24 40 2A 40"));
-            send(&mut device, 10, message);
-            assert_eq!(states(&device), [Releasing; 2], "{message:?}, {pedal}");
-        }
-    }
+    let pedals = ["B9 40 00", "B9 40 7F"];
+    each_leaves(10, &pedals, "99 24 40 2A 40", [Releasing; 2]);
 }
 
 /// One note on each of sixteen channels, every other one with its pedal down.
