@@ -42,17 +42,17 @@
  * controllers 120 and 123 to 127, a mask or a reset ends it. A releasing generator that is not reported is taken again
  * only where none is idle.
  *
- * Modes. The device has one, in which every channel plays its own notes, as many as there is room for. Controllers 124
- * to 127 (omni off and on, mono, poly) leave it so; they end the notes of their channel as 123 does, whatever their
- * value. 120, 121 and 123 act with value 0 only. Rules R6.10 to R6.13.
- *
  * A report names a generator and not a note. One that comes late, when the generator has a new note already, ends the
  * NEW note and answers MUNTINORRIS_DONE; number 13 comes only where it is idle. So count the notes that were begun on
  * each generator, have the tone generator give that count back with the end, and drop a report whose count is not the
  * last one. Where bytes and reports come from two threads, compare and report under the lock that muntinorris_byte is
  * called under.
  *
- * The machine. libmuntinorris.a is for programs on x86-64 Linux, on any such processor. It is some 31 KB of code and
+ * Modes. The device has one, MIDI 1.0's mode 3 (omni off, poly). Controllers 124 to 127, which elsewhere choose one,
+ * end the notes of their channel as 123 does, whatever their value. 120, 121 and 123 act with value 0 only. Rules R6.10
+ * to R6.13.
+ *
+ * The machine. libmuntinorris.a is for programs on x86-64 Linux, on any such processor. It is some 32 KB of code and
  * constants, has no data, and calls memcpy and memset of the C library and nothing else. A byte takes up to some 3 KB
  * of stack, a report 1.5 KB; calls that take more say so below, and docs/PERFORMANCE.md has all figures.
  *

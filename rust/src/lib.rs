@@ -44,8 +44,11 @@
 //! assert_eq!((to_release, to_mute), (vec![0, 2], vec![3]));
 //! ```
 //!
-//! Drums stay busy until [`Device::report`] says that they have ended: their note-offs change nothing. A report names a
-//! generator and not a note: see there for one that comes late.
+//! Drums stay busy until [`Device::report`] says that they have ended, they or their group are struck again, they are
+//! stolen, or one of the controllers 120 and 123 to 127, a mask or a reset ends them: their note-offs change nothing. A
+//! report names a generator and not a note: see there for one that comes late.
+//!
+//! Controllers 124 to 127 end the notes of their channel as 123 does, whatever their value; the device has one mode.
 use std::mem::MaybeUninit;
 
 pub mod record;

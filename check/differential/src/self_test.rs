@@ -32,7 +32,7 @@ const SHARED: [(&str, &str); 13] = [
     ("SilentKeepsAge", "order of age: it has"),
 ];
 
-/// Such mistakes about what controllers 120 to 127 end: of each the book has other notes.
+/// Such mistakes about what controllers 120 to 127 end: each is found by the notes that the book has.
 const SHARED_MODE: [&str; 27] = [
     "ValueZeroNotNeeded",
     "AllNotesOffWithAnyValue",

@@ -236,7 +236,8 @@ impl Writer<'_> {
         self.message(0xB0 | channel, &[number, value]);
     }
 
-    /// 120 to 127: up to 123 mostly with 0, which counts there; the mode messages with any value, also as a count.
+    /// 120 to 127: up to 123 mostly with 0, the only value that 120, 121 and 123 heed; the others with any, also as a
+    /// count.
     fn channel_mode(&mut self) {
         let channel = self.channel();
         let number = 120 + self.random.below(8) as u8;

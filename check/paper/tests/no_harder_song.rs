@@ -155,7 +155,7 @@ fn all_lists_of_notes() {
 /// Notes of channel 1 under the pedal, let go by it, by 120, 121 and 123, of these with a value that does nothing too,
 /// and by 126, which has no such value.
 #[test]
-fn all_lists_of_pedals_and_mode_messages() {
+fn all_lists_of_pedals_and_channel_mode_messages() {
     let alphabet = words("90, B0, 00, 01, 40, 78, 79, 7B, 7E");
     for (polyphony, most_bytes) in [(1, 13), (2, 11), (3, 9), (4, 11)] {
         search(polyphony, &alphabet, most_bytes);

@@ -1,9 +1,9 @@
--- R9.13 in its own words, for every book: controllers 124 to 127, whatever their value, do what 123 does with value 0;
--- and no note hangs: behind one of them no note of the channel is down. The first is computed for each of the four, the
--- second for a note that is down or on the pedal, of this channel or another.
+-- R9.13 of 124 to 127, for every book: whatever their value, they do what 123 does with value 0. So behind one of them
+-- no key of the channel is down (`none-down`), and no note of it hangs: unless the pedal keeps it, what was down has left
+-- (`none-hangs`). The first is computed for each of the four numbers, the others for each kind of slot.
 -- Assumes nothing.
-use mathlib.Core.Path.{_≡_, refl, ap, _∙_}
-use mathlib.Core.Bool.{Bool, true, false, _&&_, not}
+use mathlib.Core.Path.{_≡_, refl, sym, ap, _∙_}
+use mathlib.Core.Bool.{Bool, true, false, _&&_, not, false≢true}
 use Prim.Native.Nat.{ℕ, _≤_}
 use lib.Dec.{eqb}
 use Rattle.loops.specs.Cases.{if_then_else_}
@@ -40,3 +40,22 @@ unfolding keepMessage
 none-down b c n v g a lo hi =
     ap (λ (x : Book). isDownOn c (x .notes g)) (keeps-as-123 b c n v a lo hi)
     ∙ none-left c (pedalDown b c && not (isRhythm b c)) (b .notes g)
+
+-- a down note of the channel leaves where no pedal keeps it
+emptied : (c : ℕ) (s : Slot) → isDownOn c s ≡ true → (pedal : Bool) → pedal ≡ false → freed (isDownOn c) pedal s ≡ empty
+emptied c empty e pedal q = absurd (false≢true e)
+emptied c (note p d k) e pedal q = go (isDownOn c (note p d k)) e pedal q
+  where
+    go : (x : Bool) → x ≡ true → (y : Bool) → y ≡ false
+        → (if x then if y then note true d k else empty else note p d k) ≡ empty
+    go true f true g = absurd (false≢true (sym g))
+    go true f false g = refl
+    go false f y g = absurd (false≢true f)
+
+pub none-hangs : (b : Book) (c n v g : ℕ) (a : Answer) → 124 ≤ n → n ≤ 127
+    → pedalDown b c && not (isRhythm b c) ≡ false → isDownOn c (b .notes g) ≡ true
+    → keepMessage b (Control c n v) a .notes g ≡ empty
+unfolding keepMessage
+none-hangs b c n v g a lo hi q e =
+    ap (λ (x : Book). x .notes g) (keeps-as-123 b c n v a lo hi)
+    ∙ emptied c (b .notes g) e (pedalDown b c && not (isRhythm b c)) q

@@ -54,7 +54,7 @@ same-if : {A : Type 0} (b : Bool) (x : A) → (if b then x else x) ≡ x
 same-if true x = refl
 same-if false x = refl
 
--- step 2, note-off, 123 and the pedal: which notes a change means, and whether they go on the pedal
+-- step 2, note-off, all notes off and the pedal: which notes a change means, and whether they go on the pedal
 abbrev pub means : Change → Slot → Bool
 means (ReleaseNote c k) s = isOfKey c k s
 means (ReleaseChannel c) s = isOf c s

@@ -1,5 +1,5 @@
--- R6.12 in its own words, for every record: controllers 124 to 127, whatever their value, do what 123 does with value
--- 0. There are four of them, and with each number written out both sides compute to the same record.
+-- R6.12 of 124 to 127, for every record: whatever their value, they do what 123 does with value 0. There are four of
+-- them, and with each number written out both sides compute to the same record.
 -- Assumes nothing.
 use mathlib.Core.Path.{_≡_, refl, sym, subst}
 use mathlib.Core.Bool.{Bool, true, false}
@@ -11,7 +11,7 @@ use Rattle.controllers.specs.Controllers.{controlled, stored}
 use Rattle.instrument.specs.declared.Instrument.{Instrument}
 use Rattle.other_messages.specs.OtherMessages.{notesAfter, playControl}
 
--- what holds of the four holds of each
+-- what holds of 124, 125, 126 and 127 holds of every number from 124 to 127
 pub by-mode : (Q : ℕ → Type 0) → Q 124 → Q 125 → Q 126 → Q 127 → (n : ℕ) → 124 ≤ n → n ≤ 127 → Q n
 by-mode Q a b c d n lo hi = go (eqb n 124) refl (eqb n 125) refl (eqb n 126) refl
   where

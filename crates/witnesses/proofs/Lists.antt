@@ -80,7 +80,7 @@ idle-generator-given = go (isLoss (first .book) 1 60 (Live .answer first (Byte 6
     go true e = absurd (false≢true (demand-3 1 0 (Byte 0x90 ∷ Byte 60 ∷ Byte 64 ∷ []) .fair .1 .1 .0 e 0 1-of-1 .0))
     go false e = not-lost (first .book) 1 60 (Live .answer first (Byte 64)) refl e
 
--- ---- P 1, a note held on channel 1, and the keyboard changes its mode: the next note of channel 1 is given the
+-- ---- P 1, a note held on channel 1, and the keyboard changes its mode: the next note of channel 1 is given a
 -- generator, and steals nothing, since controller 126 has taken the first one out of the book
 
 abbrev new-mode : Both
