@@ -226,7 +226,8 @@ fn the_same_bytes_in_other_messages_end_nothing() {
     none_ends(&["80 7E 00", "90 7E 00", "A0 7E 00", "C0 7E", "E0 7E 00"]);
 }
 
-/// A keyboard holds as many notes as there are generators, and changes to mono: none hangs, and the next ones need no theft.
+/// A keyboard holds as many notes as there are generators, and changes to mono: none hangs, and the next ones need no
+/// theft.
 #[test]
 fn a_keyboard_that_changes_its_mode() {
     let mut device = start(4, 0);

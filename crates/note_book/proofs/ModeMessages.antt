@@ -1,6 +1,6 @@
 -- R9.13 of 124 to 127, for every book: whatever their value, they do what 123 does with value 0. So behind one of them
--- no key of the channel is down (`none-down`), and no note of it hangs: unless the pedal keeps it, what was down has left
--- (`none-hangs`). The first is computed for each of the four numbers, the others for each kind of slot.
+-- no key of the channel is down (`none-down`), and no note of it hangs: unless the pedal keeps it, what was down has
+-- left (`none-hangs`). The first is computed for each of the four numbers, the others for each kind of slot.
 -- Assumes nothing.
 use mathlib.Core.Path.{_≡_, refl, sym, ap, _∙_}
 use mathlib.Core.Bool.{Bool, true, false, _&&_, not, false≢true}
