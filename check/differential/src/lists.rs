@@ -50,6 +50,8 @@ const KINDS: [(usize, Kind); 7] = [
 const LONG_EVERY: u64 = 200;
 
 const POLYPHONIES: [u8; 10] = [1, 2, 3, 4, 8, 16, 24, 32, 63, 64];
+/// Every tenth list begins with one of these, in turn, so that a short run meets each.
+const REFUSED_EVERY: u64 = 10;
 const REFUSED_STARTS: [(u8, u8); 7] = [
     (0, 0),
     (65, 7),
@@ -67,7 +69,10 @@ impl List {
             0 => Kind::LongSysEx,
             _ => pick_weighted(random, &KINDS),
         };
-        let (polyphony, id) = start(random);
+        let (polyphony, id) = match number % REFUSED_EVERY {
+            5 => REFUSED_STARTS[(number / REFUSED_EVERY) as usize % REFUSED_STARTS.len()],
+            _ => start(random),
+        };
         let length = 500 + random.below(8000);
         List {
             kind,
@@ -104,9 +109,6 @@ pub fn pick_weighted<T: Copy>(random: &mut Random, choices: &[(usize, T)]) -> T 
 }
 
 fn start(random: &mut Random) -> (u8, u8) {
-    if random.one_in(10) {
-        return random.pick(&REFUSED_STARTS);
-    }
     let polyphony = match random.below(4) {
         0 => 1 + random.below(64) as u8,
         _ => random.pick(&POLYPHONIES),
