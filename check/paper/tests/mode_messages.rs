@@ -169,11 +169,15 @@ fn each_controller<const N: usize>(
     }
 }
 
+/// All Sound Off, and no other controller.
+fn silenced(number: u8, value: u8) -> Option<[State; 2]> {
+    ((number, value) == (120, 0)).then_some([Idle; 2])
+}
+
 #[test]
 fn of_all_controllers_these_end_held_notes() {
     let before = behind("90 3C 40 40 40");
-    let others = |number, value| ((number, value) == (120, 0)).then_some([Idle; 2]);
-    each_controller(&before, 1, [Releasing; 2], others);
+    each_controller(&before, 1, [Releasing; 2], silenced);
 }
 
 #[test]
@@ -190,8 +194,7 @@ fn of_all_controllers_these_end_notes_with_the_pedal_down() {
 #[test]
 fn of_all_controllers_these_end_drums() {
     let before = behind("B9 40 7F 99 24 40 2A 40");
-    let others = |number, value| ((number, value) == (120, 0)).then_some([Idle; 2]);
-    each_controller(&before, 10, [Releasing; 2], others);
+    each_controller(&before, 10, [Releasing; 2], silenced);
 }
 
 #[test]

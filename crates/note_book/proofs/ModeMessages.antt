@@ -1,16 +1,20 @@
--- R9.13 of 124 to 127, for every book: whatever their value, they do what 123 does with value 0. So behind one of them
--- no key of the channel is down (`none-down`), and no note of it hangs: unless the pedal keeps it, what was down has
--- left (`none-hangs`). The first is computed for each of the four numbers, the others for each kind of slot.
+-- R9.13 of 124 to 127, for every book: whatever their value, they act as 123 with value 0. So behind one of them no key
+-- of the channel is down (`none-down`), and no note of it hangs: unless the pedal keeps it, what was down has left
+-- (`none-hangs`; at work in `chord-gone`). The first is computed for each of the four numbers, the others for each kind
+-- of slot.
 -- Assumes nothing.
 use mathlib.Core.Path.{_≡_, refl, sym, ap, _∙_}
 use mathlib.Core.Bool.{Bool, true, false, _&&_, not, false≢true}
-use Prim.Native.Nat.{ℕ, _≤_}
+use Prim.Native.Nat.{ℕ, _+_, _≤_}
+use native.Mathlib.Omega.{arith}
 use lib.Dec.{eqb}
 use Rattle.loops.specs.Cases.{if_then_else_}
 use Rattle.message.specs.declared.Message.the-variants.{Control}
 use Rattle.other_messages.proofs.ModeMessages.{by-mode}
 use Rattle.playing.specs.declared.Answer.{Answer}
-use Rattle.note_book.specs.Book.{Book, Slot, empty, note, isDown, isOf, isRhythm, pedalDown, freed, keepMessage}
+use Rattle.playing.specs.declared.Answer.the-variants.{Done}
+use Rattle.note_book.specs.Book.{Book, Slot, empty, note, withNotes, freshBook}
+use Rattle.note_book.specs.Book.{isDown, isOf, isRhythm, pedalDown, freed, keepMessage}
 
 pub keeps-as-123 : (b : Book) (c n v : ℕ) (a : Answer) → 124 ≤ n → n ≤ 127
     → keepMessage b (Control c n v) a ≡ keepMessage b (Control c 123 0) a
@@ -59,3 +63,17 @@ unfolding keepMessage
 none-hangs b c n v g a lo hi q e =
     ap (λ (x : Book). x .notes g) (keeps-as-123 b c n v a lo hi)
     ∙ emptied c (b .notes g) e (pedalDown b c && not (isRhythm b c)) q
+
+-- ---- a chord of channel 1 is down on four generators, its pedal up, and the keyboard sends 126
+
+abbrev chord : Book
+chord = withNotes (freshBook 4 0) (λ g. note false 1 (60 + g))
+
+126-from : 124 ≤ 126
+126-from = omega arith
+
+126-to : 126 ≤ 127
+126-to = omega arith
+
+pub chord-gone : (v g : ℕ) → keepMessage chord (Control 1 126 v) Done .notes g ≡ empty
+chord-gone v g = none-hangs chord 1 126 v g Done 126-from 126-to refl refl

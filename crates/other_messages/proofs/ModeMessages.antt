@@ -1,5 +1,5 @@
--- R6.12 of 124 to 127, for every record: whatever their value, they do what 123 does with value 0. There are four of
--- them, and with each number written out both sides compute to the same record.
+-- R6.12 of 124 to 127, for every record: whatever their value, they act as 123 with value 0. There are four of them,
+-- and with each number written out both sides compute to the same record.
 -- Assumes nothing.
 use mathlib.Core.Path.{_≡_, refl, sym, subst}
 use mathlib.Core.Bool.{Bool, true, false}
