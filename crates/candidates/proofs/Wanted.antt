@@ -11,10 +11,11 @@ use lib.Dec.{eqb, ltb}
 use lib.ListN.{length, getD, List·getD-eq-default}
 use Rattle.loops.specs.Cases.{bit}
 use Rattle.loops.specs.Passes.{total, firstOf, marksOf}
+use Rattle.loops.proofs.Search.{first-none, first-same}
 use Rattle.loops.proofs.Marks.{a-mark}
 use Rattle.generators.specs.Generators.{generator}
 use Rattle.candidates.specs.declared.Want.{Want}
-use Rattle.candidates.specs.declared.Want.the-variants.{Releasing, BusyOn}
+use Rattle.candidates.specs.declared.Want.the-variants.{Releasing, SustainedOn, HeldOn, BusyOn}
 use Rattle.candidates.specs.Candidates.{wanted}
 
 -- whether generator g is wanted, by the numbers in the record; the key is no matter
@@ -24,12 +25,16 @@ wantedAt w state channel g = wanted w (generator (getD state g 0) (getD channel 
 wanted-key : (w : Want) (x y key : ℕ) → wanted w (generator x y key) ≡ wanted w (generator x y 0)
 unfolding wanted
 wanted-key Releasing x y key = refl
+wanted-key (SustainedOn c) x y key = refl
+wanted-key (HeldOn c) x y key = refl
 wanted-key (BusyOn c) x y key = refl
 
 -- a number that is no generator's is not wanted: its state reads as idle
 idle-unwanted : (w : Want) (y key : ℕ) → wanted w (generator 0 y key) ≡ false
 unfolding wanted
 idle-unwanted Releasing y key = refl
+idle-unwanted (SustainedOn c) y key = refl
+idle-unwanted (HeldOn c) y key = refl
 idle-unwanted (BusyOn c) y key = refl
 
 pub wanted-none : (w : Want) (state channel : List ℕ) → length state ≡ 64
@@ -38,16 +43,6 @@ wanted-none w state channel e g h =
     rw (List·getD-eq-default state 0 {n = g} (omega arith)) (idle-unwanted w (getD channel g 0) 0)
 
 -- ---- the search along the order of age, by marks
-
-first-none : {A : Type 0} (p : A → Bool) → ((x : A) → p x ≡ false) → (l : List A) → firstOf p l ≡ none
-unfolding firstOf
-first-none p h [] = refl
-first-none p h (x ∷ l) = rw (h x) (first-none p h l)
-
-first-same : {A : Type 0} (p q : A → Bool) → ((x : A) → p x ≡ q x) → (l : List A) → firstOf p l ≡ firstOf q l
-unfolding firstOf
-first-same p q h [] = refl
-first-same p q h (x ∷ l) = rw (h x, first-same p q h l)
 
 total-zero : (f : ℕ → ℕ) (n : ℕ) → total f n ≡ 0 → (i : ℕ) → i < n → f i ≡ 0
 unfolding total

@@ -1,14 +1,14 @@
 -- The generators that a note-on may take, and the counting of a channel's notes.
 use Prim.Native.Nat.{ℕ}
-use mathlib.Core.Bool.{Bool}
+use mathlib.Core.Bool.{Bool, _&&_}
 use mathlib.Core.Option.{Option, some, none}
 use Rattle.loops.specs.Cases.{bit, atMost}
 use Rattle.loops.specs.Passes.{upTo, total, firstOf}
 use Rattle.ages.specs.Ages.{oldestFirst}
 use Rattle.generators.specs.declared.Generators.{Generators}
-use Rattle.generators.specs.Generators.{Generator, at, isIdle, isReleasing, isBusyOn}
+use Rattle.generators.specs.Generators.{Generator, at, isIdle, isHeld, isSustained, isReleasing, isOn, isBusyOn}
 use Rattle.candidates.specs.declared.Want.{Want}
-use Rattle.candidates.specs.declared.Want.the-variants.{Releasing, BusyOn}
+use Rattle.candidates.specs.declared.Want.the-variants.{Releasing, SustainedOn, HeldOn, BusyOn}
 use Rattle.candidates.specs.declared.Found.{Found}
 use Rattle.candidates.specs.declared.Found.the-variants.{At, Nothing}
 
@@ -20,9 +20,11 @@ found (some g) = At g
 unfoldable pub lowestIdle : Generators → ℕ → Found
 lowestIdle s p = found (firstOf (λ g. isIdle (at s g)) (upTo (λ g. g) (atMost 64 p)))
 
--- R5.6: releasing ones; R5.9: busy ones of a channel
+-- R5.6: releasing ones; R5.9: sustained and held ones of a channel; R5.7: busy ones of a channel
 unfoldable pub wanted : Want → Generator → Bool
 wanted Releasing x = isReleasing x
+wanted (SustainedOn c) x = isSustained x && isOn c x
+wanted (HeldOn c) x = isHeld x && isOn c x
 wanted (BusyOn c) x = isBusyOn c x
 
 unfoldable pub oldest : Want → Generators → Found

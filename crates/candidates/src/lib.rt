@@ -13,11 +13,15 @@ ghost use Rattle.candidates.specs.Candidates.{found, lowestIdle, wanted,
 use ages::Ages;
 use generators::Generators;
 
-// The generators among which the oldest is looked for.
+// The generators among which the oldest is looked for, or which are counted.
 pub enum Want {
     // Those that are releasing: the first to be taken where none is idle.
     Releasing,
-    // The busy ones of a channel: to be stolen from.
+    // The sustained ones of a channel: the first to be stolen.
+    SustainedOn(u8),
+    // The held ones of a channel: stolen where it has none sustained.
+    HeldOn(u8),
+    // The busy ones of a channel: they count.
     BusyOn(u8),
 }
 
@@ -35,6 +39,8 @@ fn is_wanted(want: Want, state: u8, channel: u8) -> bool
 {
     match want {
         Want::Releasing => state == generators::RELEASING,
+        Want::SustainedOn(c) => (state == generators::SUSTAINED) & (channel == c),
+        Want::HeldOn(c) => (state == generators::HELD) & (channel == c),
         Want::BusyOn(c) => generators::is_busy(state) & (channel == c),
     }
 }

@@ -1,8 +1,8 @@
 -- A loop that looks for the first element that passes, or keeps those that pass: at turn i the answer for the rest of
 -- the list is the answer for the whole, or what is kept is what passes among the first i.
 -- Assumes nothing.
-use mathlib.Core.Path.{_≡_, refl, ap, _∙_}
-use mathlib.Core.Bool.{Bool, true, false}
+use mathlib.Core.Path.{_≡_, refl, sym, ap, _∙_}
+use mathlib.Core.Bool.{Bool, true, false, false≢true}
 use mathlib.Core.List.{List, [], _∷_, _++_, append-nil}
 use mathlib.Core.Option.{Option, some, none}
 use Prim.Native.Nat.{ℕ, _+_, _≤_, _<_}
@@ -89,6 +89,32 @@ pub filter-same : {A : Type 0} (p q : A → Bool) (l : List A) → ((x : A) → 
 unfolding filterBy
 filter-same p q [] h = refl
 filter-same p q (x ∷ l) h = rw (h x, filter-same p q l h)
+
+-- nothing passes: nothing is found
+pub first-none : {A : Type 0} (p : A → Bool) → ((x : A) → p x ≡ false) → (l : List A) → firstOf p l ≡ none
+unfolding firstOf
+first-none p h [] = refl
+first-none p h (x ∷ l) = rw (h x) (first-none p h l)
+
+-- tests that agree find the same
+pub first-same : {A : Type 0} (p q : A → Bool) → ((x : A) → p x ≡ q x) → (l : List A) → firstOf p l ≡ firstOf q l
+unfolding firstOf
+first-same p q h [] = refl
+first-same p q h (x ∷ l) = rw (h x, first-same p q h l)
+
+-- what is kept has all that is looked for: the search may pass over the rest
+pub first-among : {A : Type 0} (p q : A → Bool) → ((x : A) → p x ≡ true → q x ≡ true)
+    → (l : List A) → firstOf p (filterBy q l) ≡ firstOf p l
+unfolding firstOf filterBy
+first-among p q h [] = refl
+first-among p q h (x ∷ l) = go (q x) (p x) refl refl (first-among p q h l)
+  where
+    go : (a b : Bool) → q x ≡ a → p x ≡ b → firstOf p (filterBy q l) ≡ firstOf p l
+        → firstOf p (if a then x ∷ filterBy q l else filterBy q l) ≡ (if b then some x else firstOf p l)
+    go true true e f ih = rw f
+    go true false e f ih = rw f ih
+    go false true e f ih = absurd (false≢true (sym e ∙ h x f))
+    go false false e f ih = ih
 
 -- the same search among the first n elements of an array
 module _ {A : Type 0} (p : A → Bool) (d : A) (l : List A) (n : ℕ) (k : n ≤ length l) where

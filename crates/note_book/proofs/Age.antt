@@ -85,7 +85,7 @@ after-reset : (p id : ℕ) (l : List ℕ) → Follows (fresh p id .generators) l
 unfolding fresh
 after-reset p id l = follows-silent l
 
-step : (i j : Instrument) (b : Book) (h : Heard) (a : Answer) → Right i b h a j → Matches i b
+pub step : (i j : Instrument) (b : Book) (h : Heard) (a : Answer) → Right i b h a j → Matches i b
     → (l : List ℕ) → Follows (i .generators) l → Follows (j .generators) (named l a)
 unfolding played withChannel
 step i j b h a (right-nothing x n) m l f = subst (Follows (i .generators)) (sym (n l)) f

@@ -1,8 +1,8 @@
--- Steps 4 and 5 behind one law: what the choice can be, said of the notes; of the stolen generator also that it is
--- the oldest busy one of the chosen channel.
+-- Steps 4 and 5 behind one law: what the choice can be, said of the notes. Which generator of the chosen channel is
+-- stolen is said of the notes and of the order of age: the first one on the pedal, else the first one down.
 -- Assumes nothing.
 use mathlib.Core.Path.{_≡_, refl, sym, ap, _∙_, subst}
-use mathlib.Core.Bool.{Bool, true, false, true≢false}
+use mathlib.Core.Bool.{Bool, true, false, _&&_, true≢false, false≢true}
 use mathlib.Core.List.{List, [], _∷_, _++_}
 use mathlib.Core.Option.{Option, some, none}
 use Prim.Native.Nat.{ℕ, zero, suc, _+_, _≤_, _<_}
@@ -13,6 +13,8 @@ use Rattle.loops.specs.Cases.{if_then_else_, bit, atMost}
 use Rattle.loops.specs.Passes.{upTo, total, firstOf, count}
 use Rattle.loops.proofs.Totals.{total-same}
 use Rattle.loops.proofs.Occurs.{occurs, occurs-snoc}
+use Rattle.loops.proofs.Search.{first-same}
+use Rattle.loops.proofs.Tests.{and-left, and-right}
 use Rattle.table.specs.declared.Entry.{Entry}
 use Rattle.table.specs.declared.Table.{Table}
 use Rattle.table.specs.Laws.{Distinct}
@@ -22,21 +24,21 @@ use Rattle.shares.specs.declared.Share.the-variants.{Masked, Units}
 use Rattle.shares.specs.Shares.{shares, sum, lookup}
 use Rattle.ages.specs.Ages.{oldestFirst}
 use Rattle.generators.specs.declared.Generators.{Generators}
-use Rattle.generators.specs.Generators.{Generator, at, isIdle, isReleasing, isBusyOn}
-use Rattle.candidates.specs.declared.Found.the-variants.{At}
-use Rattle.candidates.specs.declared.Want.the-variants.{Releasing, BusyOn}
+use Rattle.generators.specs.Generators.{Generator, at, isIdle, isHeld, isSustained, isReleasing, isOn, isBusyOn}
+use Rattle.candidates.specs.declared.Want.the-variants.{Releasing}
 use Rattle.candidates.specs.Candidates.{found, lowestIdle, wanted, oldest, busyCount}
-use Rattle.stealing.specs.Stealing.{counted, overShare, toLoser, stealFrom, loses, victim}
+use Rattle.stealing.specs.Stealing.{counted, otherwise, overShare, toLoser, stealFrom, firstFound, loses, victim}
 use Rattle.allocation.specs.declared.Was.{Was}
 use Rattle.allocation.specs.declared.Was.the-variants.{Idle, Release, Stolen}
 use Rattle.allocation.specs.declared.Taken.{Taken}
 use Rattle.allocation.specs.declared.Taken.the-variants.{Took, Refused}
 use Rattle.allocation.specs.Allocation.{isStolen, orElse, choice}
-use Rattle.note_book.specs.Book.{Slot, empty, note, isNote, isOf, notesOn}
+use Rattle.note_book.specs.Book.{Slot, empty, note, isNote, isDown, isOnPedal, isOf, notesOn}
 use Rattle.note_book.specs.Claim.{slotOf}
+use Rattle.note_book.specs.WhoLoses.{withNew, firstToGo}
 use Rattle.note_book.proofs.Sees.{Sees, Kind, kind, held, sustained, neither}
 use Rattle.note_book.proofs.Playable.{Playable}
-use Rattle.note_book.proofs.Pigeons.{IsOver, IsListed, withNew, over-some, over-same, pigeons}
+use Rattle.note_book.proofs.Pigeons.{IsOver, IsListed, over-some, over-same, pigeons}
 
 -- ---- a search finds what passes if anything does
 
@@ -91,7 +93,7 @@ at-most-p p h = go (ltb p 64) refl
 
 -- ---- one generator
 
-idle-slot : (x : Generator) → isIdle x ≡ true → slotOf x ≡ empty
+pub idle-slot : (x : Generator) → isIdle x ≡ true → slotOf x ≡ empty
 idle-slot x e = rw (eqb-true (x .state) 0 e)
 
 releasing-slot : (x : Generator) → isReleasing x ≡ true → slotOf x ≡ empty
@@ -105,14 +107,46 @@ busy-slot c x = go (kind (x .state))
     go (sustained e) = rw e
     go (neither p q) = rw (p, q)
 
+pedal-slot : (c : ℕ) (x : Generator) → isSustained x && isOn c x ≡ isOnPedal (slotOf x) && isOf c (slotOf x)
+pedal-slot c x = go (kind (x .state))
+  where
+    go : Kind (x .state) → isSustained x && isOn c x ≡ isOnPedal (slotOf x) && isOf c (slotOf x)
+    go (held e) = rw e
+    go (sustained e) = rw e
+    go (neither p q) = rw (p, q)
+
+down-slot : (c : ℕ) (x : Generator) → isHeld x && isOn c x ≡ isDown (slotOf x) && isOf c (slotOf x)
+down-slot c x = go (kind (x .state))
+  where
+    go : Kind (x .state) → isHeld x && isOn c x ≡ isDown (slotOf x) && isOf c (slotOf x)
+    go (held e) = rw e
+    go (sustained e) = rw e
+    go (neither p q) = rw (p, q)
+
 releasing-sounds : (x : Generator) → isReleasing x ≡ true → isIdle x ≡ false
 releasing-sounds x e = rw (eqb-true (x .state) 3 e)
+
+-- a note is of one channel
+pub same-channel : (c d : ℕ) (x : Slot) → isOf c x ≡ true → isOf d x ≡ true → c ≡ d
+same-channel c d empty e f = absurd (false≢true e)
+same-channel c d (note p x k) e f = sym (eqb-true x c e) ∙ eqb-true x d f
 
 of-note : (c : ℕ) (x : Slot) → isOf c x ≡ true → isNote x ≡ true
 of-note c empty e = e
 of-note c (note p d k) e = refl
 
-note-sounds : (x : Generator) → isNote (slotOf x) ≡ true → isIdle x ≡ false
+-- a note is on the pedal or down
+pedal-up : (x : Slot) → isOnPedal x ≡ true → isDown x ≡ true → ⊥
+pedal-up empty e f = false≢true e
+pedal-up (note true d k) e f = false≢true f
+pedal-up (note false d k) e f = false≢true e
+
+neither-of : (c : ℕ) (x : Slot) → isOnPedal x && isOf c x ≡ false → isDown x && isOf c x ≡ false → isOf c x ≡ false
+neither-of c empty e f = refl
+neither-of c (note true d k) e f = e
+neither-of c (note false d k) e f = f
+
+pub note-sounds : (x : Generator) → isNote (slotOf x) ≡ true → isIdle x ≡ false
 note-sounds x e = go (isIdle x) refl
   where
     go : (b : Bool) → isIdle x ≡ b → b ≡ false
@@ -142,11 +176,18 @@ over-none (Units u) v = omega arith
 abbrev pub Full : ℕ → (ℕ → Slot) → Type 0
 Full p n = (g : ℕ) → g < p → isNote (n g) ≡ true
 
+-- where generator g's note is down, channel d has none on the pedal
+abbrev pub KeyLast : (ℕ → Slot) → ℕ → ℕ → Type 0
+KeyLast n d g = isDown (n g) ≡ true → (h : ℕ) → isOnPedal (n h) && isOf d (n h) ≡ false
+
 pub data Chosen (p : ℕ) (n : ℕ → Slot) (s : Generators) (q : List Entry) (c : ℕ) : Taken → Type 0 where
   free : (g : ℕ) (w : Was) → isStolen w ≡ false → g < p → n g ≡ empty → Chosen p n s q c (Took g w)
   theft : (g d : ℕ) → Full p n → g < p → isOf d (n g) ≡ true → IsOver (lookup d q) (withNew p n c d)
-      → oldest (BusyOn d) s ≡ At g → Chosen p n s q c (Took g Stolen)
-  shut : Full p n → IsOver (lookup c q) (withNew p n c c) → notesOn p c n ≡ 0 → Chosen p n s q c (Refused 11)
+      → overShare (withNew p n c) q ≡ some d → firstToGo n (oldestFirst (s .ages)) d ≡ some g → KeyLast n d g
+      → Chosen p n s q c (Took g Stolen)
+  shut : Full p n → IsOver (lookup c q) (withNew p n c c) → notesOn p c n ≡ 0
+      → overShare (withNew p n c) q ≡ some c → firstToGo n (oldestFirst (s .ages)) c ≡ none
+      → Chosen p n s q c (Refused 11)
 
 pub total-cut : (f : ℕ → ℕ) (m n : ℕ) → m ≤ n → ((i : ℕ) → m ≤ i → f i ≡ 0) → total f n ≡ total f m
 unfolding total
@@ -179,42 +220,81 @@ module _ (p : ℕ) (n : ℕ → Slot) (s : Generators) (o : Playable p s) (e : S
   in-order : (g : ℕ) → isIdle (at s g) ≡ false → 1 ≤ occurs g (oldestFirst (s .ages))
   in-order g i = rw (o .ordered .once g, i) (omega arith)
 
+  -- every note stands in the order of age
+  note-in-order : (g : ℕ) → isNote (n g) ≡ true → 1 ≤ occurs g (oldestFirst (s .ages))
+  note-in-order g y = in-order g (note-sounds (at s g) (ap isNote (sym (e g)) ∙ y))
+
+  -- so that a search along it for notes of a channel that finds none has seen them all
+  none-at-all : (f : Slot → Bool) → f empty ≡ false
+      → ((g : ℕ) → 1 ≤ occurs g (oldestFirst (s .ages)) → f (n g) ≡ false) → (g : ℕ) → f (n g) ≡ false
+  none-at-all f z h g = go (n g) refl
+    where
+      go : (x : Slot) → n g ≡ x → f (n g) ≡ false
+      go empty y = ap f y ∙ z
+      go (note p d k) y = h g (note-in-order g (ap isNote y))
+
+  -- the device's two searches are those of the notes
+  loses-notes : (d : ℕ) → loses s (toLoser (some d)) ≡ found (firstToGo n (oldestFirst (s .ages)) d)
+  unfolding oldest wanted
+  loses-notes d = rw (
+    first-same (λ g. isSustained (at s g) && isOn d (at s g)) (λ g. isOnPedal (n g) && isOf d (n g))
+        (λ g. pedal-slot d (at s g) ∙ ap (λ (x : Slot). isOnPedal x && isOf d x) (sym (e g))) (oldestFirst (s .ages)),
+    first-same (λ g. isHeld (at s g) && isOn d (at s g)) (λ g. isDown (n g) && isOf d (n g))
+        (λ g. down-slot d (at s g) ∙ ap (λ (x : Slot). isDown x && isOf d x) (sym (e g))) (oldestFirst (s .ages)),
+  ) (go (firstOf (λ g. isOnPedal (n g) && isOf d (n g)) (oldestFirst (s .ages))) _)
+    where
+      go : (x y : Option ℕ) → firstFound (found x) (found y) ≡ found (otherwise x y)
+      go (some g) y = refl
+      go none y = refl
+
+  -- what the searches find
+  data Lost (d : ℕ) : Option ℕ → Type 0 where
+    a-note : (g : ℕ) → isOf d (n g) ≡ true → KeyLast n d g → Lost d (some g)
+    no-note : ((g : ℕ) → isOf d (n g) ≡ false) → Lost d none
+
+  lost : (d : ℕ) → Lost d (firstToGo n (oldestFirst (s .ages)) d)
+  lost d = go _ (first-law (λ g. isOnPedal (n g) && isOf d (n g)) (oldestFirst (s .ages)))
+      _ (first-law (λ g. isDown (n g) && isOf d (n g)) (oldestFirst (s .ages)))
+    where
+      go : (x : Option ℕ) → Picked (λ g. isOnPedal (n g) && isOf d (n g)) (oldestFirst (s .ages)) x
+          → (y : Option ℕ) → Picked (λ g. isDown (n g) && isOf d (n g)) (oldestFirst (s .ages)) y
+          → Lost d (otherwise x y)
+      go x (some-one g b k) y r =
+          a-note g (and-right (isOnPedal (n g)) _ b) (λ t. absurd (pedal-up (n g) (and-left (isOnPedal (n g)) _ b) t))
+      go x (no-one a) y (some-one g b k) =
+          a-note g (and-right (isDown (n g)) _ b) (λ t. none-at-all (λ x. isOnPedal x && isOf d x) refl a)
+      go x (no-one a) y (no-one b) =
+          no-note (λ g. neither-of d (n g) (none-at-all (λ x. isOnPedal x && isOf d x) refl a g)
+          (none-at-all (λ x. isDown x && isOf d x) refl b g))
+
   module _ (q : List Entry) (c : ℕ) (u : Distinct q) (t : sum q ≤ p)
       (l : listed c q ≡ true) (h : (g : ℕ) → IsListed q (n g)) where
-    -- the chosen channel has a busy generator, or is the new note's own
-    take-oldest : Full p n → (d : ℕ) → IsOver (lookup d q) (withNew p n c d)
-        → Chosen p n s q c (orElse (oldest (BusyOn d) s) Stolen (Refused 11))
-    unfolding oldest wanted total
-    take-oldest f d v = go (firstOf (λ g. isBusyOn d (at s g)) (oldestFirst (s .ages))) refl
-        (first-law (λ g. isBusyOn d (at s g)) (oldestFirst (s .ages)))
+    -- the chosen channel has a note, or is the new note's own
+    take-first : Full p n → (d : ℕ) → overShare (withNew p n c) q ≡ some d → IsOver (lookup d q) (withNew p n c d)
+        → Chosen p n s q c (orElse (loses s (toLoser (some d))) Stolen (Refused 11))
+    unfolding total
+    take-first f d o v = rw (loses-notes d) (go (firstToGo n (oldestFirst (s .ages)) d) refl (lost d))
       where
         own : (m : ℕ) (b : Bool) → eqb d c ≡ b → m ≡ 0 → IsOver (lookup d q) (m + bit b) → d ≡ c
         own m true eb z v = eqb-true d c eb
         own m false eb z v = absurd (over-none (lookup d q) (rw z at v))
 
-        unheard : ((g : ℕ) → 1 ≤ occurs g (oldestFirst (s .ages)) → isBusyOn d (at s g) ≡ false)
-            → (g : ℕ) → (b : Bool) → isIdle (at s g) ≡ b → isOf d (n g) ≡ false
-        unheard z g true i = ap (isOf d) (e g ∙ idle-slot (at s g) i)
-        unheard z g false i = ap (isOf d) (e g) ∙ sym (busy-slot d (at s g)) ∙ z g (in-order g i)
-
-        go : (x : Option ℕ) → firstOf (λ g. isBusyOn d (at s g)) (oldestFirst (s .ages)) ≡ x
-            → Picked (λ g. isBusyOn d (at s g)) (oldestFirst (s .ages)) x
+        go : (x : Option ℕ) → firstToGo n (oldestFirst (s .ages)) d ≡ x → Lost d x
             → Chosen p n s q c (orElse (found x) Stolen (Refused 11))
-        go x r (some-one g b k) =
-            let y : isOf d (n g) ≡ true = ap (isOf d) (e g) ∙ sym (busy-slot d (at s g)) ∙ b in
-            theft g d f (below g (note-sounds (at s g) (ap isNote (sym (e g)) ∙ of-note d (n g) y))) y v (ap found r)
-        go x r (no-one z) =
+        go x r (a-note g y k) =
+            theft g d f (below g (note-sounds (at s g) (ap isNote (sym (e g)) ∙ of-note d (n g) y))) y v o r k
+        go x r (no-note z) =
             let m : notesOn p d n ≡ 0 =
-            total-cut (λ (g : ℕ). bit (isOf d (n g))) 0 p (omega arith)
-            (λ g k. ap bit (unheard z g (isIdle (at s g)) refl)) in
+            total-cut (λ (g : ℕ). bit (isOf d (n g))) 0 p (omega arith) (λ g k. ap bit (z g)) in
             let h : d ≡ c = own (notesOn p d n) (eqb d c) refl m v in
             shut f (subst (λ (y : ℕ). IsOver (lookup y q) (withNew p n c y)) h v)
-            (subst (λ (y : ℕ). notesOn p y n ≡ 0) h m)
+            (subst (λ (y : ℕ). notesOn p y n ≡ 0) h m) (o ∙ ap some h)
+            (subst (λ (y : ℕ). firstToGo n (oldestFirst (s .ages)) y ≡ none) h r)
 
     rob : Full p n → (x : Option ℕ) → overShare (withNew p n c) q ≡ x
         → Chosen p n s q c (orElse (loses s (toLoser x)) Stolen (Refused 11))
     rob f none r = absurd (pigeons p n q c f h l t r)
-    rob f (some d) r = take-oldest f d (over-some (withNew p n c) q d u r)
+    rob f (some d) r = take-first f d r (over-some (withNew p n c) q d u r)
 
     pub chosen : (m : Table) → shares p m ≡ q → Chosen p n s q c (choice s m p c)
     unfolding choice lowestIdle oldest wanted victim stealFrom

@@ -3,24 +3,27 @@
 -- it can answer said of the book only. All that follows goes by cases on that.
 -- Assumes nothing.
 use mathlib.Core.Path.{_≡_, refl, sym, ap, ap₂, _∙_, subst}
-use mathlib.Core.Bool.{Bool, true, false}
+use mathlib.Core.Bool.{Bool, true, false, _&&_, false≢true}
 use mathlib.Core.List.{List, [], _∷_, _++_}
+use mathlib.Core.Option.{Option, some, none}
 use Prim.Native.Nat.{ℕ, _≤_, _<_}
 use native.Mathlib.Omega.{arith}
-use borrow.Author.Tests.{not-false}
-use lib.Dec.{eqb}
+use borrow.Author.Tests.{not-false, ltb-true, ltb-false}
+use lib.Dec.{eqb, ltb}
 use lib.ListN.{length}
 use Rattle.loops.specs.Cases.{if_then_else_}
 use Rattle.loops.specs.Passes.{filterBy}
+use Rattle.loops.proofs.Tests.{and-left, and-right}
 use Rattle.table.specs.declared.Entry.{Entry}
 use Rattle.table.specs.Laws.{WellFormed}
 use Rattle.table.specs.Table.{entriesOf, listed}
 use Rattle.shares.specs.Shares.{sharesFrom, lookup, isMasked}
 use Rattle.shares.specs.Shares as of-table
 use Rattle.shares.proofs.Shares.{sum-from, shares-distinct, masked-unlisted}
-use Rattle.ages.specs.Ages.{otherThan}
+use Rattle.stealing.specs.Stealing.{overShare}
+use Rattle.ages.specs.Ages.{oldestFirst, otherThan}
 use Rattle.generators.specs.declared.Generators.{Generators}
-use Rattle.generators.specs.Generators.{assigned}
+use Rattle.generators.specs.Generators.{at, assigned}
 use Rattle.releases.specs.declared.Change.the-variants.{ReleaseNote}
 use Rattle.releases.specs.Releases.{changed}
 use Rattle.silence.specs.declared.Leaving.the-variants.{Group}
@@ -39,13 +42,15 @@ use Rattle.playing.specs.declared.Answer.the-variants.{Note, NoNote}
 use Rattle.playing.specs.declared.Reply.{Reply}
 use Rattle.playing.specs.Playing.{noteReply, playNoteOn}
 use Rattle.note_book.specs.Book.{Slot, empty, note, Book, withNotes, shareOf, isRhythm}
-use Rattle.note_book.specs.Book.{isNote, isOf, isEnded, freed, put, remaining, keepNoteOn}
+use Rattle.note_book.specs.Book.{isNote, isDown, isOnPedal, isOf, isEnded, freed, put, remaining, keepNoteOn}
 use Rattle.note_book.specs.Claim.{IsFull}
 use Rattle.note_book.specs.Age.{named}
+use Rattle.note_book.specs.WhoLoses.{withNew, firstToGo, goes, lossAnswer, Foretold, PedalFirst}
 use Rattle.note_book.proofs.Playable.{Playable, playable-cleared, playable-assigned}
 use Rattle.note_book.proofs.Sees.{Sees, sees-cleared, sees-assigned}
-use Rattle.note_book.proofs.Pigeons.{IsOver, IsListed, withNew}
-use Rattle.note_book.proofs.Choose.{Full, Chosen, free, theft, shut, chosen}
+use Rattle.note_book.proofs.Pigeons.{IsOver, IsListed}
+use Rattle.note_book.proofs.Choose.{idle-slot, same-channel, Full, KeyLast, Chosen, free, theft, shut, chosen}
+use Rattle.note_book.proofs.Foretold.{freed-same, foretells}
 
 -- the unmasked channels with their shares
 abbrev pub quota : Book → List Entry
@@ -106,6 +111,9 @@ pub record NoteLaw (i : Instrument) (b : Book) (c k : ℕ) (r : Reply) : Type 0 
   pub matches : Matches (r .instrument) (keepNoteOn b c k (r .answer))
   -- the generator that the answer names is the newest
   pub follows : (l : List ℕ) → Follows (i .generators) l → Follows (r .instrument .generators) (named l (r .answer))
+  -- who loses, where a note must go
+  pub foretold : (l : List ℕ) → Follows (i .generators) l → Foretold l b (r .answer) c k
+  pub pedal-first : PedalFirst b (r .answer) c k
 
 -- what is left is a note that the new one doesn't end
 stands : (f : Slot → Bool) (x : Slot) → f empty ≡ false
@@ -185,6 +193,34 @@ note-law i b m c k = rw (same-rhythm i b m c) (go (isMasked (of-table.shareOf (i
     full : Full p n → IsFull b c k
     full f g h = stands (isEnded r c k) (b .notes g) refl (f g h)
 
+    -- where the new note ends none of the notes, they are those of the book
+    same-notes : IsFull b c k → (g : ℕ) → n g ≡ b .notes g
+    same-notes f g = go (ltb g p) refl
+      where
+        go : (x : Bool) → ltb g p ≡ x → n g ≡ b .notes g
+        go true x = freed-same (isEnded r c k) (b .notes g) (f g (ltb-true g p x) .1)
+        go false x =
+            freed-same (isEnded r c k) (b .notes g)
+            (ap (isEnded r c k) (m .notes g ∙ idle-slot (at (i .generators) g) (m .playable .above g (ltb-false g p x))))
+
+    told : IsFull b c k → (l : List ℕ) → Follows (i .generators) l → (d : ℕ) (x : Option ℕ)
+        → overShare (withNew p n c) q ≡ some d → firstToGo n (oldestFirst (s .ages)) d ≡ x
+        → lossAnswer c k x ≡ lossAnswer c k (goes b l c)
+    told w l f d x o e =
+        ap (lossAnswer c k) (sym (foretells b n (same-notes w) s seen l
+        (follows-cleared r c k (i .generators) (m .playable .ordered) l f) c d x o e))
+
+    -- a note on a generator that had none, though all had
+    no-gap : IsFull b c k → (g : ℕ) → g < p → n g ≡ empty → ⊥
+    no-gap w g h e = false≢true (sym (ap isNote (sym (same-notes w g) ∙ e)) ∙ w g h .0)
+
+    key-last : (g d : ℕ) → IsFull b c k → isOf d (n g) ≡ true → KeyLast n d g
+        → (x : ℕ) → isDown (n g) && isOf x (n g) ≡ true → (h : ℕ) → isOnPedal (b .notes h) && isOf x (b .notes h) ≡ false
+    key-last g d w e last x y h =
+        let z : x ≡ d = same-channel x d (n g) (and-right (isDown (n g)) _ y) e in
+        ap₂ (λ (u : Slot) (v : ℕ). isOnPedal u && isOf v u) (sym (same-notes w h)) z
+        ∙ last (and-left (isDown (n g)) _ y) h
+
     taking : listed c q ≡ true → (g : ℕ) → g < p
         → Matches (withGenerators i (assigned g c k s)) (withNotes b (put n g (note false c k)))
     taking l g h =
@@ -204,16 +240,43 @@ note-law i b m c k = rw (same-rhythm i b m c) (go (isMasked (of-table.shareOf (i
 
     take : isMasked (shareOf b c) ≡ false → listed c q ≡ true → (t : Taken)
         → Chosen p n s q c t → NoteLaw i b c k (noteReply i c k (allocated (i .generators) s c k t))
-    take u l t (free g w z h e) = record { outcome = served g w u z e; matches = taking l g h; follows = newest g h }
-    take u l t (theft g d f h e v o) =
-        record { outcome = robbed g d u (full f) e v; matches = taking l g h; follows = newest g h }
-    take u l t (shut f v z) = record { outcome = turned u (full f) v; matches = same; follows = λ l f. f }
+    take u l t (free g w z h e) =
+        record {
+          outcome = served g w u z e;
+          matches = taking l g h;
+          follows = newest g h;
+          foretold = λ y a v f. absurd (no-gap f g h e);
+          pedal-first = λ x y. absurd (false≢true (sym (ap (λ (z : Slot). isDown z && isOf x z) e) ∙ y));
+        }
+    take u l t (theft g d f h e v o r last) =
+        record {
+          outcome = robbed g d u (full f) e v;
+          matches = taking l g h;
+          follows = newest g h;
+          foretold = λ y a v w. told w y a d (some g) o r;
+          pedal-first = key-last g d (full f) e last;
+        }
+    take u l t (shut f v z o r) =
+        record {
+          outcome = turned u (full f) v;
+          matches = same;
+          follows = λ l f. f;
+          foretold = λ y a v w. told w y a c none o r;
+          pedal-first = λ x y. absurd (false≢true y);
+        }
 
     go : (x : Bool) → isMasked (of-table.shareOf (i .table) (i .polyphony) c) ≡ x
         → NoteLaw i b c k (noteReply i c k (if x then record { taken = Refused 10; generators = i .generators }
         else allocated (i .generators) s c k (choice s (i .table) (i .polyphony) c)))
     go true e =
-        record { outcome = masked (ap isMasked (sym (same-share i b m c)) ∙ e); matches = same; follows = λ l f. f }
+        let z : isMasked (shareOf b c) ≡ true = ap isMasked (sym (same-share i b m c)) ∙ e in
+        record {
+          outcome = masked z;
+          matches = same;
+          follows = λ l f. f;
+          foretold = λ l f u. absurd (false≢true (sym u ∙ z));
+          pedal-first = λ x y. absurd (false≢true y);
+        }
     go false e =
         let u : isMasked (shareOf b c) ≡ false = ap isMasked (sym (same-share i b m c)) ∙ e in
         let l = listed-unmasked c q u in

@@ -20,6 +20,7 @@ use Rattle.shares.specs.declared.Share.the-variants.{Masked, Units}
 use Rattle.shares.specs.Shares.{sum, lookup}
 use Rattle.stealing.specs.Stealing.{otherwise, overShare}
 use Rattle.note_book.specs.Book.{Slot, empty, note, isOf, isNote, notesOn}
+use Rattle.note_book.specs.WhoLoses.{withNew}
 
 abbrev sumBy : (ℕ → ℕ) → List Entry → ℕ
 sumBy n [] = 0
@@ -134,10 +135,6 @@ IsListed q (note p c k) = listed c q ≡ true
 slot-sum : (q : List Entry) (x : Slot) → isNote x ≡ true → IsListed q x → 1 ≤ sumBy (λ d. bit (isOf d x)) q
 slot-sum q empty e h = absurd (false≢true e)
 slot-sum q (note p c k) e h = listed-sum c q h
-
--- the notes of channel d, a new one of channel c counted
-abbrev pub withNew : ℕ → (ℕ → Slot) → ℕ → ℕ → ℕ
-withNew p n c d = notesOn p d n + bit (eqb d c)
 
 pub pigeons : (p : ℕ) (n : ℕ → Slot) (q : List Entry) (c : ℕ) → ((g : ℕ) → g < p → isNote (n g) ≡ true)
     → ((g : ℕ) → IsListed q (n g)) → listed c q ≡ true → sum q ≤ p

@@ -36,7 +36,9 @@ use Rattle.note_book.specs.Book.{message, newTable, reset, report, keep,
 use Rattle.note_book.specs.Claim.{IsWithin, isLoss, IsFull, Fair, Keeps, Safe, AtNoteOn}
 use Rattle.note_book.specs.Claim.{IsInRun, System, after, IsExact, Always, Each, IsRun, Demand3}
 use Rattle.note_book.specs.Age.{named}
-use Rattle.note_book.proofs.Pigeons.{IsOver, flip, withNew}
+use Rattle.note_book.specs.WhoLoses.{withNew}
+use Rattle.note_book.proofs.Pigeons.{IsOver, flip}
+use Rattle.note_book.proofs.Choose.{same-channel}
 use Rattle.note_book.proofs.Matches.{Matches, Outcome, masked, served, robbed, turned, note-law}
 use Rattle.note_book.proofs.Steps.{IsSent, step-message, step-table, step-report, step-reset}
 
@@ -151,10 +153,6 @@ within-unmasked : (x : Share) (m : ℕ) → IsWithin x m → isMasked x ≡ true
 within-unmasked Masked m h e = h
 within-unmasked (Units u) m h e = false≢true e
 
-same-channel : (c d : ℕ) (s : Slot) → isOf c s ≡ true → isOf d s ≡ true → c ≡ d
-same-channel c d empty e f = absurd (false≢true e)
-same-channel c d (note p x j) e f = sym (eqb-true x c e) ∙ eqb-true x d f
-
 -- channel c keeps within its share, and a note-on of channel d comes
 module _ (b : Book) (c d k : ℕ) (w : IsWithin (shareOf b c) (notesOn (b .polyphony) c (b .notes)))
     (h : d ≡ c → IsWithin (shareOf b c) (countAt b c k)) where
@@ -219,6 +217,19 @@ outcome-of : (i j : Instrument) (b : Book) → Matches i b → (c k : ℕ) (a : 
 unfolding played
 outcome-of i j b m c k a (right-message x s) = note-law i b m c k .outcome
 
+-- a claim at note-ons, at whatever is heard
+pub at-note-ons : (F : ℕ → ℕ → Type 0) (h : Heard) → ((c k : ℕ) → h ≡ message (NoteOn c k) → F c k) → AtNoteOn F h
+at-note-ons F nothing f = tt
+at-note-ons F (message (NoteOn c k)) f = f c k refl
+at-note-ons F (message (NoteOff c k)) f = tt
+at-note-ons F (message (Control c n v)) f = tt
+at-note-ons F (message (Program c n)) f = tt
+at-note-ons F (message (Bend c x y)) f = tt
+at-note-ons F (message Other) f = tt
+at-note-ons F (newTable t) f = tt
+at-note-ons F reset f = tt
+at-note-ons F (report g) f = tt
+
 module _ (i j : Instrument) (b : Book) (m : Matches i b) where
   within-heard : (c : ℕ) (h : Heard) (a : Answer) → Right i b h a j
       → IsInRun h → Within c b → AtNoteOn (Keeps c b a) h → Within c (keep b h a)
@@ -234,19 +245,6 @@ module _ (i j : Instrument) (b : Book) (m : Matches i b) where
   within-heard c (newTable t) a r n w k = absurd n
   within-heard c reset a r n w k = absurd n
   within-heard c (report g) a r n w k = within-tame c b _ (tame-report b g a) w
-
-  -- a claim at note-ons, at whatever is heard
-  at-note-ons : (F : ℕ → ℕ → Type 0) (h : Heard) → ((c k : ℕ) → h ≡ message (NoteOn c k) → F c k) → AtNoteOn F h
-  at-note-ons F nothing f = tt
-  at-note-ons F (message (NoteOn c k)) f = f c k refl
-  at-note-ons F (message (NoteOff c k)) f = tt
-  at-note-ons F (message (Control c n v)) f = tt
-  at-note-ons F (message (Program c n)) f = tt
-  at-note-ons F (message (Bend c x y)) f = tt
-  at-note-ons F (message Other) f = tt
-  at-note-ons F (newTable t) f = tt
-  at-note-ons F reset f = tt
-  at-note-ons F (report g) f = tt
 
   fair-heard : (h : Heard) (a : Answer) → Right i b h a j → AtNoteOn (Fair b a) h
   fair-heard h a r = at-note-ons (Fair b a) h

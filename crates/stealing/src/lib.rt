@@ -52,13 +52,16 @@ fn steal_from(generators: Generators, table: Table, polyphony: u8, channel: u8) 
     Loser::Nobody
 }
 
-// The generator that a new note of the channel steals where all are busy: the oldest busy one of the channel to steal
-// from.
+// The generator that a new note of the channel steals where all are busy: of the channel to steal from the oldest
+// sustained one, since a key that is still down is heard to break off, and the oldest held one where none is sustained.
 pub fn victim(generators: Generators, table: Table, polyphony: u8, channel: u8) -> Found
     ensures { λ r. ⌜ r ≡ victim generators table polyphony channel ⌝ }
 {
     let Loser::Channel(d) = steal_from(generators, table, polyphony, channel) else {
         return Found::Nothing;
     };
-    candidates::oldest(generators, Want::BusyOn(d))
+    if let Found::At(g) = candidates::oldest(generators, Want::SustainedOn(d)) {
+        return Found::At(g);
+    }
+    candidates::oldest(generators, Want::HeldOn(d))
 }
