@@ -1,10 +1,11 @@
 -- The song on the generators: in the order of age stand the last notes of the song, one after the other, all held on
 -- channel 1. The next key isn't among them, for there are at most 64; it takes an idle generator while there is one,
--- and then the oldest.
+-- and then the oldest, since no pedal is down.
 -- Assumes nothing.
 use mathlib.Core.Path.{_≡_, refl, sym, ap, _∙_, subst}
-use mathlib.Core.Bool.{Bool, true, false, not, _||_}
+use mathlib.Core.Bool.{Bool, true, false, not, _&&_, _||_}
 use mathlib.Core.List.{List, [], _∷_, _++_, map}
+use mathlib.Core.Option.{some}
 use Prim.Native.Nat.{ℕ, zero, suc, _+_, _%_, _≤_, _<_}
 use native.Mathlib.Omega.{arith}
 use borrow.Author.Tests.{eqb-true, eqb-false, eq-eqb, ne-eqb, le-leb, lt-leb}
@@ -15,6 +16,7 @@ use Rattle.loops.specs.Passes.{total, firstOf, filterBy, count}
 use Rattle.loops.proofs.Fill.{upTo-list}
 use Rattle.loops.proofs.Totals.{total-bits}
 use Rattle.loops.proofs.Occurs.{occurs, total-hole}
+use Rattle.loops.proofs.Search.{first-none}
 use Rattle.loops.proofs.Tests.{impossible}
 use Rattle.table.specs.declared.Entry.{Entry}
 use Rattle.table.specs.Laws.{WellFormed}
@@ -25,12 +27,9 @@ use Rattle.shares.specs.Shares as of-table
 use Rattle.shares.proofs.Shares.{sum-from, shares-distinct, masked-unlisted}
 use Rattle.ages.specs.Ages.{oldestFirst, agesOf, otherThan}
 use Rattle.generators.specs.declared.Generators.{Generators}
-use Rattle.generators.specs.Generators.{Generator, generator, at, isIdle, isSounding, isBusyOn, assigned, silent}
+use Rattle.generators.specs.Generators.{Generator, generator, at, isIdle, isSounding, assigned, silent}
 use Rattle.releases.specs.declared.Change.the-variants.{ReleaseNote}
 use Rattle.releases.specs.Releases.{changes, changed}
-use Rattle.candidates.specs.declared.Found.the-variants.{At}
-use Rattle.candidates.specs.declared.Want.the-variants.{BusyOn}
-use Rattle.candidates.specs.Candidates.{found, wanted, oldest}
 use Rattle.age_law.proofs.At.{assigned-at}
 use Rattle.age_law.proofs.Assigned.{order-length, assigned-order}
 use Rattle.allocation.specs.declared.Was.the-variants.{Stolen}
@@ -39,8 +38,9 @@ use Rattle.allocation.specs.declared.Taken.the-variants.{Took}
 use Rattle.allocation.specs.declared.Allocated.{Allocated}
 use Rattle.allocation.specs.Allocation.{cleared, choice, allocated, noteOn}
 use Rattle.playing.specs.Playing.{replyOf}
-use Rattle.note_book.specs.Book.{Slot, empty, note, isNote, isOf}
+use Rattle.note_book.specs.Book.{Slot, empty, note, isNote, isDown, isOnPedal, isOf}
 use Rattle.note_book.specs.Claim.{slotOf}
+use Rattle.note_book.specs.WhoLoses.{firstToGo}
 use Rattle.note_book.proofs.Playable.{Playable, playable-assigned, playable-silent}
 use Rattle.note_book.proofs.Pigeons.{IsListed}
 use Rattle.note_book.proofs.Choose.{Chosen, free, theft, shut, total-cut, chosen}
@@ -119,19 +119,20 @@ others-head g l z = rw (eq-eqb g g refl) (others-all g l z)
 idle-empty : (x : Generator) → x .state ≡ 0 → slotOf x ≡ empty
 idle-empty x e = rw e
 
--- the oldest busy generator of channel 1 is the first of the line
+-- no note of the line is on the pedal, so that the first of them goes
 record Front (s : Generators) (n g : ℕ) (l : List ℕ) : Type 0 where
   rest : List ℕ
   is : l ≡ g ∷ rest
   line : Line s (n + 1) rest
 
 front : (s : Generators) (n g : ℕ) (l : List ℕ) → Line s n l → 1 ≤ length l
-    → found (firstOf (λ x. isBusyOn 1 (at s x)) l) ≡ At g → Front s n g l
+    → firstOf (λ x. isDown (slotOf (at s x)) && isOf 1 (slotOf (at s x))) l ≡ some g → Front s n g l
 unfolding firstOf
 front s n g [] h k e = absurd (omega arith)
 front s n g (x ∷ l) h k e =
-    let busy : isBusyOn 1 (at s x) ≡ true = ap (isBusyOn 1) (h .0) in
-    let r : At x ≡ At g = rw busy at e in
+    let down : isDown (slotOf (at s x)) && isOf 1 (slotOf (at s x)) ≡ true =
+    ap (λ (y : Generator). isDown (slotOf y) && isOf 1 (slotOf y)) (h .0) in
+    let r : some x ≡ some g = rw down at e in
     let q : x ≡ g = cc in
     record { rest = l; is = ap (λ (y : ℕ). y ∷ l) q; line = h .1 }
 
@@ -288,9 +289,16 @@ module _ (p j : ℕ) (lo : 1 ≤ p) (s : Generators) (o : Lined p j s) where
       go (song k a b x y) = ap (λ (z : Generator). isOf 1 (slotOf z)) y
       go (idle x) = let q : _≡_ {A = Bool} false true = sym (ap isNote (idle-empty (at s g) x)) ∙ e in impossible (cc)
 
-  oldest-one : (g : ℕ) → oldest (BusyOn 1) s ≡ At g → found (firstOf (λ x. isBusyOn 1 (at s x)) (order s)) ≡ At g
-  unfolding oldest wanted
-  oldest-one g e = e
+  no-pedal : (g : ℕ) → isOnPedal (slots g) && isOf 1 (slots g) ≡ false
+  no-pedal g = go (either g)
+    where
+      go : Either g → isOnPedal (slots g) && isOf 1 (slots g) ≡ false
+      go (song k a b x y) = ap (λ (z : Generator). isOnPedal (slotOf z) && isOf 1 (slotOf z)) y
+      go (idle x) = ap (λ (z : Slot). isOnPedal z && isOf 1 z) (idle-empty (at s g) x)
+
+  first-down : (g : ℕ) → firstToGo slots (order s) 1 ≡ some g
+      → firstOf (λ x. isDown (slots x) && isOf 1 (slots x)) (order s) ≡ some g
+  first-down g e = rw (first-none (λ x. isOnPedal (slots x) && isOf 1 (slots x)) no-pedal (order s)) at e
 
   take : (t : Taken) → Chosen p slots s quota 1 t → Plays (allocated s s 1 key t)
   take t (free g w z h e) = go (either g)
@@ -314,7 +322,7 @@ module _ (p j : ℕ) (lo : 1 ≤ p) (s : Generators) (o : Lined p j s) where
           start : (n : ℕ) → (1 ≤ n → length (order s) ≡ p) → length (order s) < p → n ≡ 0
           start zero f l = refl
           start (suc n) f l = absurd (let k = f (omega arith) in omega arith)
-  take t (theft g d f h e v r) = go (either g)
+  take t (theft g d f h e v w r last) = go (either g)
     where
       robs : Front s (o .first) g (order s) → length (order s) ≡ p
           → sounds g ≡ true → Plays (allocated s s 1 key (Took g Stolen))
@@ -340,9 +348,9 @@ module _ (p j : ℕ) (lo : 1 ≤ p) (s : Generators) (o : Lined p j s) where
           let one : d ≡ 1 = sym (eqb-true 1 d q) in
           let n = full in
           robs (front s (o .first) g (order s) (o .line) (omega arith)
-          (oldest-one g (subst (λ (z : ℕ). oldest (BusyOn z) s ≡ At g) one r))) n x
+          (first-down g (subst (λ (z : ℕ). firstToGo slots (order s) z ≡ some g) one r))) n x
       go (idle x) = let q : _≡_ {A = Bool} false true = sym (ap (isOf d) (idle-empty (at s g) x)) ∙ e in impossible (cc)
-  take t (shut f v z) =
+  take t (shut f v z w r) =
       absurd (let n = total-full (λ (g : ℕ). isOf 1 (slots g)) p (λ g l. own g (f g l)) in omega arith)
 
   -- The law: the next note of the song.

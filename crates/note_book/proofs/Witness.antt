@@ -1,14 +1,16 @@
 -- Demand 3 bites. First its words, for any book and answer: what keeps within a share, what ends a run, what is
 -- served, robbed and lost is no less than the rules say; a claim emptied behind its name would not give these facts.
--- Then the end of any list. Short lists in which `demand-3` alone, not the device, says what becomes of a note stand
--- in crate `witnesses`, so that they are computed once and not for each wrong answer.
+-- Then the words of who loses, and the end of any list. Short lists in which the theorems alone, not the device, say
+-- what becomes of a note stand in crate `witnesses`, so that they are computed once and not for each wrong answer.
 -- Assumes nothing.
 use mathlib.Core.Path.{_≡_, refl, sym, ap, _∙_}
 use mathlib.Core.Bool.{Bool, true, false, not, _&&_, _||_, false≢true}
 use mathlib.Core.List.{List, [], _∷_, _++_}
+use mathlib.Core.Option.{some, none}
 use Prim.Native.Nat.{ℕ, _≤_, _<_}
 use borrow.Author.Tests.{eqb-true}
 use lib.Dec.{eqb}
+use Rattle.loops.specs.Passes.{firstOf}
 use Rattle.table.specs.declared.Entry.{Entry}
 use Rattle.shares.specs.declared.Share.the-variants.{Units}
 use Rattle.shares.specs.Shares.{isMasked}
@@ -19,11 +21,13 @@ use Rattle.allocation.specs.Allocation.{isStolen}
 use Rattle.playing.specs.declared.Answer.{Answer}
 use Rattle.playing.specs.declared.Answer.the-variants.{Nothing, Done, Note, NoNote, Number}
 use Rattle.events.specs.declared.Event.{Event}
-use Rattle.note_book.specs.Book.{Book, isNote, isOf, isEnded, remaining, Heard}
+use Rattle.note_book.specs.Book.{Slot, Book, isNote, isDown, isOnPedal, isOf, isEnded, remaining, Heard}
 use Rattle.note_book.specs.Book.{nothing, message, newTable, reset, report}
 use Rattle.note_book.specs.Book as of-book
 use Rattle.note_book.specs.Claim.{IsWithin, isLoss, isServed, Fair, Safe, IsInRun, System, after}
-use Rattle.note_book.specs.Claim.{IsExact, Always, Each, IsRun, StaysWithin, Demand3, Live, begin}
+use Rattle.note_book.specs.Claim.{AtNoteOn, IsExact, Always, Each, IsRun, StaysWithin, Demand3, Live, begin}
+use Rattle.note_book.specs.Age.{named, byAnswers}
+use Rattle.note_book.specs.WhoLoses.{firstToGo, goes, lossAnswer, Foretold, PedalFirst, EachForetold}
 use Rattle.note_book.proofs.Demand3.{demand-3}
 
 -- ---- the words, whatever the device
@@ -110,6 +114,47 @@ not-lost b c k Nothing u e = absurd (false≢true (sym e ∙ ap not u))
 not-lost b c k Done u e = absurd (false≢true (sym e ∙ ap not u))
 not-lost b c k (NoNote n x y) u e = absurd (false≢true (sym e ∙ ap not u))
 not-lost b c k (Number n) u e = absurd (false≢true (sym e ∙ ap not u))
+
+-- ---- who loses: the words, whatever the device
+
+-- where a note must go, the answer is the one on paper, whatever the channel and the book
+pub answer-foretold : (order : List ℕ) (b : Book) (a : Answer) (c k : ℕ) → Foretold order b a c k
+    → isMasked (of-book.shareOf b c) ≡ false → ((g : ℕ) → g < b .polyphony
+    → (isNote (b .notes g) ≡ true) × (isEnded (of-book.isRhythm b c) c k (b .notes g) ≡ false))
+    → a ≡ lossAnswer c k (goes b order c)
+answer-foretold order b a c k f = f
+
+-- a note on the pedal goes before one that is down, however old that is; and a key goes where none is on the pedal
+pub pedal-goes : (n : ℕ → Slot) (order : List ℕ) (d g : ℕ)
+    → firstOf (λ h. isOnPedal (n h) && isOf d (n h)) order ≡ some g → firstToGo n order d ≡ some g
+pedal-goes n order d g e = rw e
+
+pub key-goes : (n : ℕ → Slot) (order : List ℕ) (d : ℕ)
+    → firstOf (λ h. isOnPedal (n h) && isOf d (n h)) order ≡ none
+    → firstToGo n order d ≡ firstOf (λ h. isDown (n h) && isOf d (n h)) order
+key-goes n order d e = rw e
+
+-- a key that is down is not stolen while its channel has a note on the pedal, whichever channel that is
+pub key-unstolen : (b : Book) (c k d g h : ℕ) (w : Was)
+    → isDown (remaining b c k g) && isOf d (remaining b c k g) ≡ true
+    → isOnPedal (b .notes h) && isOf d (b .notes h) ≡ true → PedalFirst b (Note c k g w) c k → ⊥
+key-unstolen b c k d g h w e p f = false≢true (sym (f d e h) ∙ p)
+
+-- both are claimed at every event of a list; the order of age is that of the answers before it
+pub foretold-at : (S : System) (order : List ℕ) (s : S .State) (pre : List (S .Event)) (e : S .Event)
+    (post : List (S .Event)) → EachForetold S order s (pre ++ (e ∷ post))
+    → AtNoteOn (Foretold (byAnswers S order s pre) (S .book (after S s pre)) (S .answer (after S s pre) e))
+    (S .hears (after S s pre) e)
+unfolding after
+foretold-at S order s [] e post f = f .0
+foretold-at S order s (x ∷ pre) e post f = foretold-at S (named order (S .answer s x)) (S .next s x) pre e post (f .1)
+
+pub each-at : (S : System) (F : Book → Answer → ℕ → ℕ → Type 0) (s : S .State) (pre : List (S .Event)) (e : S .Event)
+    (post : List (S .Event)) → Each S F s (pre ++ (e ∷ post))
+    → AtNoteOn (F (S .book (after S s pre)) (S .answer (after S s pre) e)) (S .hears (after S s pre) e)
+unfolding after
+each-at S F s [] e post f = f .0
+each-at S F s (x ∷ pre) e post f = each-at S F (S .next s x) pre e post (f .1)
 
 -- ---- the end of any list
 

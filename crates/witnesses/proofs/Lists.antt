@@ -1,17 +1,19 @@
--- Demand 3 bites, in short lists: a drum is served, an idle generator is given, and so is one whose note a mode message
--- has ended; a theft that is allowed, and runs that bring a drum along. What stood there before is computed from the
--- definitions; what becomes of the last note `demand-3` alone says.
+-- The claims bite, in short lists: a drum is served, an idle generator is given, and so is one whose note a mode message
+-- has ended; a theft that is allowed; a note on the pedal that goes before an older key; and runs that bring a drum
+-- along. What stood there before is computed from the definitions; what becomes of the last note `demand-3` alone says,
+-- and `who-loses` who pays for it.
 -- Assumes nothing.
-use mathlib.Core.Path.{_≡_, refl}
+use mathlib.Core.Path.{_≡_, refl, ap, _∙_, subst}
 use mathlib.Core.Bool.{Bool, true, false, false≢true}
 use mathlib.Core.List.{List, [], _∷_, _++_}
-use Prim.Native.Nat.{ℕ, _≤_}
+use mathlib.Core.Option.{some}
+use Prim.Native.Nat.{ℕ, zero, suc, _≤_, _<_}
 use native.Mathlib.Omega.{arith}
 use Rattle.loops.specs.Passes.{upTo, total, filterBy, firstOf, padded}
 use Rattle.splitter.specs.Split.{begun, stored, oneDataByte, completed, dataByte, opened, ended, statusByte, split}
 use Rattle.message.specs.Message.{decode}
 use Rattle.table.specs.Table.{tableOf, startTable}
-use Rattle.shares.specs.Shares.{sharesFrom, lookup, shareOf}
+use Rattle.shares.specs.Shares.{sharesFrom, lookup, isMasked, shareOf}
 use Rattle.drums.specs.Drums.{groupOf, excludes}
 use Rattle.ages.specs.Ages.{agesOf, newest}
 use Rattle.generators.specs.Generators.{assigned, silent}
@@ -19,21 +21,27 @@ use Rattle.releases.specs.Releases.{changes, stateAfter, changed}
 use Rattle.silence.specs.Silence.{isAmong, leaves, silenced}
 use Rattle.candidates.specs.Candidates.{lowestIdle, wanted, oldest, busyCount}
 use Rattle.stealing.specs.Stealing.{overShare, stealFrom, victim}
+use Rattle.allocation.specs.declared.Was.the-variants.{Stolen}
 use Rattle.allocation.specs.Allocation.{cleared, choice, noteOn}
-use Rattle.instrument.specs.Instrument.{fresh, isRhythm, withChannel}
+use Rattle.instrument.specs.Instrument.{fresh, isRhythm, channelOf, withChannel}
 use Rattle.controllers.specs.Controllers.{controlled}
 use Rattle.controllers.specs.Controllers as of-controllers
-use Rattle.other_messages.specs.OtherMessages.{notesAfter, playControl}
+use Rattle.other_messages.specs.OtherMessages.{notesAfter, playNoteOff, playControl}
+use Rattle.playing.specs.declared.Answer.the-variants.{Note}
 use Rattle.playing.specs.Playing.{playNoteOn, played}
 use Rattle.device.specs.Device.{started, heard, byteTaken}
 use Rattle.events.specs.declared.Event.{Event}
 use Rattle.events.specs.declared.Event.the-variants.{Byte, Report}
 use Rattle.events.specs.Events.{taken, reportTaken}
-use Rattle.note_book.specs.Book.{isNote, isOf, isEnded, keepMessage, keep}
-use Rattle.note_book.specs.Claim.{stolenNote, isLoss, isServed, after, Both, Live, begin}
-use Rattle.note_book.proofs.Demand3.{demand-3}
+use Rattle.message.specs.declared.Message.the-variants.{NoteOn}
+use Rattle.note_book.specs.Book.{note, message, isNote, isOf, isEnded, keepMessage, keep}
+use Rattle.note_book.specs.Book as of-book
+use Rattle.note_book.specs.Claim.{stolenNote, isLoss, IsFull, isServed, AtNoteOn, after, Both, Live, begin}
+use Rattle.note_book.specs.Age.{byAnswers}
+use Rattle.note_book.specs.WhoLoses.{payer, goes, lossAnswer, Foretold}
+use Rattle.note_book.proofs.Demand3.{demand-3, who-loses}
 use Rattle.reports.specs.Reports.{reported}
-use Rattle.note_book.proofs.Witness.{IsGiven, not-lost}
+use Rattle.note_book.proofs.Witness.{IsGiven, not-lost, foretold-at}
 
 -- ---- arithmetic on numerals, apart from the lists: what a tactic finds in reach it computes
 
@@ -48,6 +56,9 @@ use Rattle.note_book.proofs.Witness.{IsGiven, not-lost}
 
 2-of-2 : 2 ≤ 2
 2-of-2 = omega arith
+
+not-below-2 : (g : ℕ) → suc (suc g) < 2 → ⊥
+not-below-2 g h = omega arith
 
 1-not-10 : _≡_ {A = ℕ} 1 10 → ⊥
 1-not-10 e = omega arith
@@ -122,6 +133,52 @@ theft-when-full =
       demand-3 1 0
           (Byte 0x90 ∷ Byte 60 ∷ Byte 64 ∷ Byte 0x99 ∷ Byte 36 ∷ Byte 64 ∷ []) .fair .1 .1 .1 .1 .1 .0 lost 0 1-of-1,
     )
+
+-- ---- P 2, the pianist: C4 is down, D4 is younger and on the pedal, and E4 finds no generator. Book and answers say who
+-- loses: D4 on generator 1, and not the older key under the finger
+
+abbrev pub pianist : List Event
+pianist =
+    Byte 0xB0 ∷ Byte 64 ∷ Byte 127 ∷ Byte 0x90 ∷ Byte 60 ∷ Byte 64 ∷ Byte 62 ∷ Byte 64 ∷ Byte 62 ∷ Byte 0 ∷ Byte 64 ∷ []
+
+-- what the book has, and the order by the answers, where the last byte comes
+record BeforeE4 (s : Both) (order : List ℕ) : Type 0 where
+  hears : Live .hears s (Byte 64) ≡ message (NoteOn 1 64)
+  generators : s .book .polyphony ≡ 2
+  c4 : s .book .notes 0 ≡ note false 1 60
+  d4 : s .book .notes 1 ≡ note true 1 62
+  unmasked : isMasked (of-book.shareOf (s .book) 1) ≡ false
+  pays : payer (s .book) 1 ≡ some 1
+  ages : order ≡ 0 ∷ 1 ∷ []
+
+-- so the claim says who loses; nothing of the device is computed here
+d4-goes : (s : Both) (order : List ℕ) → BeforeE4 s order
+    → AtNoteOn (Foretold order (s .book) (Live .answer s (Byte 64))) (Live .hears s (Byte 64))
+    → Live .answer s (Byte 64) ≡ Note 1 64 1 Stolen
+unfolding firstOf
+d4-goes s order w f =
+    let g : goes (s .book) order 1 ≡ some 1 = rw (w .pays, w .ages, w .c4, w .d4) in
+    subst (AtNoteOn (Foretold order (s .book) (Live .answer s (Byte 64)))) (w .hears) f (w .unmasked) full
+    ∙ ap (lossAnswer 1 64) g
+  where
+    full : IsFull (s .book) 1 64
+    full zero h = (ap isNote (w .c4), ap (isEnded false 1 64) (w .c4))
+    full (suc zero) h = (ap isNote (w .d4), ap (isEnded false 1 64) (w .d4))
+    full (suc (suc g)) h = absurd (not-below-2 g (subst (λ (p : ℕ). suc (suc g) < p) (w .generators) h))
+
+before-e4 : BeforeE4 (after Live (begin 2 0) pianist) (byAnswers Live [] (begin 2 0) pianist)
+unfolding upTo total filterBy firstOf padded begun stored oneDataByte completed dataByte opened ended statusByte
+    split decode tableOf startTable sharesFrom lookup shareOf groupOf excludes agesOf newest assigned silent
+    changes stateAfter changed isAmong leaves silenced lowestIdle overShare cleared choice noteOn fresh isRhythm
+    playNoteOn played playNoteOff channelOf playControl notesAfter controlled of-controllers.stored withChannel
+    started heard byteTaken taken keepMessage keep after
+before-e4 =
+    record { hears = refl; generators = refl; c4 = refl; d4 = refl; unmasked = refl; pays = refl; ages = refl }
+
+pub pedal-note-foretold : Live .answer (after Live (begin 2 0) pianist) (Byte 64) ≡ Note 1 64 1 Stolen
+pedal-note-foretold =
+    d4-goes (after Live (begin 2 0) pianist) (byAnswers Live [] (begin 2 0) pianist) before-e4
+    (foretold-at Live [] (begin 2 0) pianist (Byte 64) [] (who-loses 2 0 (pianist ++ (Byte 64 ∷ [])) .foretold))
 
 -- ---- runs that bring a drum along: nothing is forgotten where they start
 
