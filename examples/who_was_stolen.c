@@ -10,7 +10,7 @@ static const uint8_t song[] = {
     0xF0, 0x7F, 0x7F, 0x0B, 0x01, 0x00, 0x01, 0x01, 0x02, 0xF7,
     0x90, 0x3C, 0x40, /* channel 1, key 60: an idle generator */
     0x3E, 0x40,       /* channel 1, key 62, by running status: the other one */
-    0x91, 0x40, 0x40, /* channel 2, key 64: channel 1 is one over its share */
+    0x91, 0x40, 0x40, /* channel 2, key 64: channel 1 is one over its share; none is on the pedal, the older goes */
     0x92, 0x40, 0x40, /* channel 3 is masked */
 };
 

@@ -84,7 +84,8 @@ extern "C" {
 /* What the generator of a note was. */
 #define MUNTINORRIS_WAS_IDLE 0
 #define MUNTINORRIS_WAS_RELEASE 1 /* it was releasing: its note had ended */
-#define MUNTINORRIS_WAS_STOLEN 2  /* it was busy: its note is lost */
+#define MUNTINORRIS_WAS_STOLEN 2  /* it was busy: its note is lost. Of the channel that loses it was the oldest
+                                   * sustained one or, where that had none, the oldest held one (R5.9) */
 
 /* The numbers, and what each leaves behind: rules R8.1 to R8.25. */
 #define MUNTINORRIS_BAD_POLYPHONY 1      /* start, song: the polyphony is not 1 to 64. A start leaves a fresh record of

@@ -61,7 +61,8 @@ pub enum Was {
     Idle,
     /// It was releasing: its note had ended.
     Release,
-    /// It was busy: its note is lost.
+    /// It was busy: its note is lost. Of the channel that loses it was the oldest sustained one or, where that had
+    /// none, the oldest held one.
     Stolen,
 }
 

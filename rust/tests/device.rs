@@ -103,6 +103,24 @@ fn states_of_a_generator() {
     assert_eq!(state(&device), Ok(State::Releasing));
 }
 
+/// A finger stays on 60, and the younger 62 is on the pedal: it goes, and 60 only when nothing is there (R5.9).
+#[test]
+fn pedal_notes_go_first() {
+    let (mut device, _) = Device::start(2, 0);
+    assert_eq!(
+        play(&mut device, &[0xB0, 64, 127, 0x90, 60, 64, 62, 64, 62, 0, 64, 64]),
+        [
+            Answer::Done,
+            note(1, 60, 0, Was::Idle),
+            note(1, 62, 1, Was::Idle),
+            Answer::Done,
+            note(1, 64, 1, Was::Stolen),
+        ]
+    );
+    assert_eq!(device.generator(0), Ok(Generator { state: State::Held, channel: 1, key: 60 }));
+    assert_eq!(play(&mut device, &[65, 64]), [note(1, 65, 0, Was::Stolen)]);
+}
+
 /// A keyboard holds a chord and changes its mode: the chord ends, and the next one finds its generators (R6.12).
 #[test]
 fn a_mode_message_ends_notes() {

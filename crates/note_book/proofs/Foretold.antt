@@ -52,7 +52,8 @@ module _ (b : Book) (n : ℕ → Slot) (same : (g : ℕ) → n g ≡ b .notes g)
 
   same-payer : (c : ℕ) → payer b c ≡ overShare (withNew (b .polyphony) n c) (sharesFrom (b .polyphony) 0 (b .table))
   same-payer c =
-      over-same (withNew (b .polyphony) (b .notes) c) (withNew (b .polyphony) n c) (sharesFrom (b .polyphony) 0 (b .table))
+      over-same (withNew (b .polyphony) (b .notes) c) (withNew (b .polyphony) n c)
+      (sharesFrom (b .polyphony) 0 (b .table))
       (λ d. ap (λ (x : ℕ). x + bit (eqb d c))
       (total-same (λ (g : ℕ). bit (isOf d (b .notes g))) (λ (g : ℕ). bit (isOf d (n g))) (b .polyphony)
       (λ g h. ap (λ (x : Slot). bit (isOf d x)) (sym (same g)))))

@@ -200,8 +200,8 @@ note-law i b m c k = rw (same-rhythm i b m c) (go (isMasked (of-table.shareOf (i
         go : (x : Bool) → ltb g p ≡ x → n g ≡ b .notes g
         go true x = freed-same (isEnded r c k) (b .notes g) (f g (ltb-true g p x) .1)
         go false x =
-            freed-same (isEnded r c k) (b .notes g)
-            (ap (isEnded r c k) (m .notes g ∙ idle-slot (at (i .generators) g) (m .playable .above g (ltb-false g p x))))
+            let z = idle-slot (at (i .generators) g) (m .playable .above g (ltb-false g p x)) in
+            freed-same (isEnded r c k) (b .notes g) (ap (isEnded r c k) (m .notes g ∙ z))
 
     told : IsFull b c k → (l : List ℕ) → Follows (i .generators) l → (d : ℕ) (x : Option ℕ)
         → overShare (withNew p n c) q ≡ some d → firstToGo n (oldestFirst (s .ages)) d ≡ x
@@ -215,7 +215,8 @@ note-law i b m c k = rw (same-rhythm i b m c) (go (isMasked (of-table.shareOf (i
     no-gap w g h e = false≢true (sym (ap isNote (sym (same-notes w g) ∙ e)) ∙ w g h .0)
 
     key-last : (g d : ℕ) → IsFull b c k → isOf d (n g) ≡ true → KeyLast n d g
-        → (x : ℕ) → isDown (n g) && isOf x (n g) ≡ true → (h : ℕ) → isOnPedal (b .notes h) && isOf x (b .notes h) ≡ false
+        → (x : ℕ) → isDown (n g) && isOf x (n g) ≡ true
+        → (h : ℕ) → isOnPedal (b .notes h) && isOf x (b .notes h) ≡ false
     key-last g d w e last x y h =
         let z : x ≡ d = same-channel x d (n g) (and-right (isDown (n g)) _ y) e in
         ap₂ (λ (u : Slot) (v : ℕ). isOnPedal u && isOf v u) (sym (same-notes w h)) z

@@ -1,7 +1,7 @@
--- The claims bite, in short lists: a drum is served, an idle generator is given, and so is one whose note a mode message
--- has ended; a theft that is allowed; a note on the pedal that goes before an older key; and runs that bring a drum
--- along. What stood there before is computed from the definitions; what becomes of the last note `demand-3` alone says,
--- and `who-loses` who pays for it.
+-- The claims bite, in short lists: a drum is served, an idle generator is given, and so is one whose note a mode
+-- message has ended; a theft that is allowed; a note on the pedal that goes before an older key; and runs that bring a
+-- drum along. What stood there before is computed from the definitions; what becomes of the last note `demand-3` alone
+-- says, and `who-loses` who pays for it.
 -- Assumes nothing.
 use mathlib.Core.Path.{_≡_, refl, ap, _∙_, subst}
 use mathlib.Core.Bool.{Bool, true, false, false≢true}
@@ -134,8 +134,8 @@ theft-when-full =
           (Byte 0x90 ∷ Byte 60 ∷ Byte 64 ∷ Byte 0x99 ∷ Byte 36 ∷ Byte 64 ∷ []) .fair .1 .1 .1 .1 .1 .0 lost 0 1-of-1,
     )
 
--- ---- P 2, the pianist: C4 is down, D4 is younger and on the pedal, and E4 finds no generator. Book and answers say who
--- loses: D4 on generator 1, and not the older key under the finger
+-- ---- P 2, the pianist: C4 is down, D4 is younger and on the pedal, and E4 finds no generator. Book and answers say
+-- who loses: D4 on generator 1, and not the older key under the finger
 
 abbrev pub pianist : List Event
 pianist =
