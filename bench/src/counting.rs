@@ -184,10 +184,29 @@ fn messages() -> Vec<Case> {
         ),
         last("theft, last byte", &followed(theft, &[0x99, 71]), 64),
     ];
+    cases.extend(pedal_thefts(&full));
     cases.extend(notes(&full, &drums));
     cases.extend(pedals(&full));
     cases.extend(exclusive(&full));
     cases
+}
+
+/// 63 notes held and one on the pedal, which is stolen: one in their midst; and the newest of all, of the last channel
+/// that the search comes to.
+fn pedal_thefts(full: &[u8]) -> Vec<Case> {
+    let on_pedal = |key| followed(full.to_vec(), &[0xB0, 64, 127, 0x80, key, 64]);
+    let last = mip((0..16).map(|channel| (channel, 64)));
+    let theft = |name, setup: Vec<u8>| case(name, &setup, &[0x90, 100, 64], Target::Theft);
+    vec![
+        theft(
+            "theft of a pedal note, three bytes, fresh table",
+            on_pedal(32),
+        ),
+        theft(
+            "theft of a pedal note, three bytes, dearest table",
+            followed(last, &on_pedal(63)),
+        ),
+    ]
 }
 
 fn notes(full: &[u8], drums: &[u8]) -> Vec<Case> {

@@ -18,7 +18,7 @@ pub struct Note {
     pub down: bool,
 }
 
-/// A rule that a wrong book forgets, or the bound of R13.1 in a wrong form.
+/// A rule that a wrong book forgets, the bound of R13.1 or what R5.8 and R5.9 say of a theft in a wrong form.
 #[derive(Clone, Copy, Debug, PartialEq, Eq)]
 pub enum Slip {
     NoteOff,
@@ -35,6 +35,11 @@ pub enum Slip {
     OneTheftLess,
     OneByteLess,
     ThreeBytesANote,
+    /// What a theft takes is not looked at.
+    Thefts,
+    PedalNotesNotCounted,
+    KeysDownFirst,
+    OldestOfBothKinds,
 }
 
 pub const SLIPS: [Slip; 11] = [
@@ -52,6 +57,13 @@ pub const SLIPS: [Slip; 11] = [
 ];
 
 pub const WRONG_BOUNDS: [Slip; 3] = [Slip::OneTheftLess, Slip::OneByteLess, Slip::ThreeBytesANote];
+
+/// Each with the rule that it has wrong.
+pub const WRONG_THEFTS: [(Slip, &str); 3] = [
+    (Slip::PedalNotesNotCounted, "R5.8"),
+    (Slip::KeysDownFirst, "R5.9"),
+    (Slip::OldestOfBothKinds, "R5.9"),
+];
 
 #[derive(Clone, Debug)]
 pub struct Book {
@@ -150,7 +162,7 @@ impl Book {
 
     /// A report and its answer (R9.14).
     pub fn report(&mut self, generator: u8, answer: Answer) {
-        if answer == Answer::Done && !self.forgets(Slip::Report) {
+        if answer == Answer::Done && !self.has(Slip::Report) {
             self.notes[usize::from(generator)] = None;
         }
     }
@@ -158,24 +170,24 @@ impl Book {
     fn channel_message(&mut self, kind: u8, channel: u8, data: [u8; 2], answer: Answer) -> Seen {
         match (kind, data) {
             (0x9, [key, 1..=127]) => return self.note_on(channel, key, answer),
-            (0x8 | 0x9, [key, _]) if !self.forgets(Slip::NoteOff) => self.note_off(channel, key),
+            (0x8 | 0x9, [key, _]) if !self.has(Slip::NoteOff) => self.note_off(channel, key),
             (0xB, [64, value]) => {
                 self.hold[usize::from(channel)] = value;
-                if value < 64 && !self.forgets(Slip::PedalUp) {
+                if value < 64 && !self.has(Slip::PedalUp) {
                     self.drop_notes(|note| note.channel == channel && !note.down);
                 }
             }
-            (0xB, [120, 0]) if !self.forgets(Slip::AllSoundOff) => {
+            (0xB, [120, 0]) if !self.has(Slip::AllSoundOff) => {
                 self.drop_notes(|note| note.channel == channel);
             }
             (0xB, [121, 0]) => {
                 self.hold[usize::from(channel)] = 0;
-                if !self.forgets(Slip::ResetControllers) {
+                if !self.has(Slip::ResetControllers) {
                     self.drop_notes(|note| note.channel == channel && !note.down);
                 }
             }
-            (0xB, [123, 0]) if !self.forgets(Slip::AllNotesOff) => self.all_notes_off(channel),
-            (0xB, [124..=127, _]) if !self.forgets(Slip::ModeMessages) => {
+            (0xB, [123, 0]) if !self.has(Slip::AllNotesOff) => self.all_notes_off(channel),
+            (0xB, [124..=127, _]) if !self.has(Slip::ModeMessages) => {
                 self.all_notes_off(channel);
             }
             _ => {}
@@ -187,7 +199,7 @@ impl Book {
         let Answer::Note { generator, .. } = answer else {
             return Seen::Ordinary;
         };
-        let (same_key, group) = (!self.forgets(Slip::SameKey), !self.forgets(Slip::Group));
+        let (same_key, group) = (!self.has(Slip::SameKey), !self.has(Slip::Group));
         self.drop_notes(|note| {
             Book::ended_by(channel, key, note) && if note.key == key { same_key } else { group }
         });
@@ -243,7 +255,7 @@ impl Book {
                 Seen::Boundary
             }
             [0x7E, d, 0x09, 0x01] if accepted(*d) => {
-                if !self.forgets(Slip::Reset) {
+                if !self.has(Slip::Reset) {
                     *self = Book::fresh(self.polyphony, self.id, self.slip);
                 }
                 Seen::Boundary
@@ -253,7 +265,7 @@ impl Book {
     }
 
     fn drop_masked(&mut self) {
-        if self.forgets(Slip::NewTable) {
+        if self.has(Slip::NewTable) {
             return;
         }
         for channel in 0..16 {
@@ -271,7 +283,8 @@ impl Book {
         }
     }
 
-    fn forgets(&self, slip: Slip) -> bool {
+    /// Is this rule forgotten, or wrong?
+    pub fn has(&self, slip: Slip) -> bool {
         self.slip == Some(slip)
     }
 }

@@ -1,4 +1,5 @@
-//! Demand 3's claims (R10.1 to R10.10), and that of the most thefts (R13.2), held against what ran.
+//! Demand 3's claims (R10.1 to R10.10), that of the most thefts (R13.2) and what a theft takes (R5.7 to R5.9), held
+//! against what ran.
 //!
 //! The book is kept beside the devices; nothing here looks into a device except to compare.
 
@@ -6,6 +7,7 @@ use crate::book::{Book, Note, Seen, Slip};
 use crate::lists::Event;
 use crate::record::Record;
 use crate::split::{Message, Splitter};
+use crate::thefts::Theft;
 use paper::{Answer, GeneratorView, State, Was, MOST_GENERATORS};
 
 /// How often the claims had something to say.
@@ -73,9 +75,6 @@ impl Claims {
         exercised: &mut Exercised,
     ) -> Result<(), String> {
         self.clock += 1;
-        if let Answer::Note { generator, .. } = answer {
-            self.last_note[usize::from(generator)] = self.clock;
-        }
         match event {
             Event::Report(generator) => {
                 self.since_fresh = None;
@@ -84,9 +83,13 @@ impl Claims {
             Event::Byte(byte) => {
                 self.most_thefts(answer, exercised)?;
                 if let Some(message) = self.splitter.byte(byte) {
-                    return self.message(&message, answer, exercised);
+                    self.message(&message, answer, exercised)?;
                 }
             }
+        }
+        // Behind the message: what was stolen is judged by the note that it was.
+        if let Answer::Note { generator, .. } = answer {
+            self.last_note[usize::from(generator)] = self.clock;
         }
         Ok(())
     }
@@ -135,10 +138,26 @@ impl Claims {
             (Seen::Stolen(stolen), _) => self.not_within_share(stolen)?,
             _ => {}
         }
-        match (note_on, had) {
-            (Some(note_on), Some(had)) => justified(&had, note_on, answer, seen, exercised),
-            _ => Ok(()),
-        }
+        let (Some(note_on), Some(had)) = (note_on, had) else {
+            return Ok(());
+        };
+        justified(&had, note_on, answer, seen, exercised)?;
+        self.theft(&had, note_on.0, answer, seen)
+    }
+
+    /// R5.7 to R5.9: a note that left as stolen is the one that had to.
+    fn theft(&self, had: &Book, new_note: u8, answer: Answer, seen: Seen) -> Result<(), String> {
+        let (Seen::Stolen(stolen), Answer::Note { generator, .. }) = (seen, answer) else {
+            return Ok(());
+        };
+        let theft = Theft {
+            had,
+            last_note: &self.last_note,
+            generator,
+            stolen,
+            new_note,
+        };
+        theft.judge()
     }
 
     /// A run ends (R10.5); behind a reset the record is fresh (R3.6).

@@ -8,7 +8,7 @@ use crate::lists::{Event, Kind, List};
 use crate::pages::{self, Pages};
 use crate::record::{difference, Given, Implementation, Malformed, Record};
 use crate::tally::Tally;
-use paper::{Answer, Number, Progress};
+use paper::{Answer, Number, Progress, Was};
 use random::Random;
 use std::fmt;
 
@@ -166,10 +166,20 @@ where
     }
 }
 
-/// Counts an answer, and what a report or a mode message found in the record before it.
+/// Counts an answer, and what a report, a mode message or a theft found in the record before it.
 fn count(tally: &mut Tally, event: Event, answer: Answer, before: &Record) {
     tally.answer(answer);
     match (event, answer, before.progress) {
+        (
+            _,
+            Answer::Note {
+                channel,
+                generator,
+                was: Was::Stolen,
+                ..
+            },
+            _,
+        ) => tally.theft(channel, generator, before),
         (Event::Report(generator), Answer::Done, _) => {
             tally.report(before.generators[usize::from(generator)].state);
         }

@@ -1,6 +1,7 @@
 //! The lists of events that both sides are fed: each a start, then bytes and reports.
 
 use crate::song::SONG;
+use crate::staged_thefts;
 use crate::writer::{Mix, Writer, FAULTS, PEDALS, PLAYING, TABLES};
 use random::Random;
 
@@ -26,6 +27,8 @@ pub enum Kind {
     Song,
     /// Notes that all but steal, by running status, with bytes changed, put in and left out; without reports.
     Thefts,
+    /// Thefts of pedal notes and of held ones, each on a device that is filled for it.
+    StagedThefts,
     /// Messages around a SysEx of about 100,000 bytes with real-time bytes within.
     LongSysEx,
 }
@@ -37,7 +40,8 @@ pub struct List {
     pub events: Vec<Event>,
 }
 
-/// How often each kind of list comes, but for the long one: it is every 200th list.
+/// How often each kind of list comes, but for staged thefts, which come in turn, and the long one: it is every 200th
+/// list.
 const KINDS: [(usize, Kind); 7] = [
     (4, Kind::Noise),
     (4, Kind::Playing),
@@ -50,8 +54,11 @@ const KINDS: [(usize, Kind); 7] = [
 const LONG_EVERY: u64 = 200;
 
 const POLYPHONIES: [u8; 10] = [1, 2, 3, 4, 8, 16, 24, 32, 63, 64];
-/// Every tenth list begins with one of these, in turn, so that a short run meets each.
-const REFUSED_EVERY: u64 = 10;
+/// Of every ten lists the third has staged thefts and the fifth a refused start, in turn, so that a short run meets
+/// each.
+const TURN: u64 = 10;
+/// From 3 on a staged theft has all that it needs.
+const STAGED_POLYPHONIES: [u8; 9] = [4, 3, 64, 8, 2, 63, 16, 1, 24];
 const REFUSED_STARTS: [(u8, u8); 7] = [
     (0, 0),
     (65, 7),
@@ -65,12 +72,18 @@ const REFUSED_STARTS: [(u8, u8); 7] = [
 impl List {
     /// The list with this number in its run, counted from 1.
     pub fn new(random: &mut Random, number: u64) -> List {
-        let kind = match number % LONG_EVERY {
-            0 => Kind::LongSysEx,
+        let turn = (number / TURN) as usize;
+        let kind = match (number % LONG_EVERY, number % TURN) {
+            (0, _) => Kind::LongSysEx,
+            (_, 3) => Kind::StagedThefts,
             _ => pick_weighted(random, &KINDS),
         };
-        let (polyphony, id) = match number % REFUSED_EVERY {
-            5 => REFUSED_STARTS[(number / REFUSED_EVERY) as usize % REFUSED_STARTS.len()],
+        let (polyphony, id) = match number % TURN {
+            3 => (
+                STAGED_POLYPHONIES[turn % STAGED_POLYPHONIES.len()],
+                start(random).1,
+            ),
+            5 => REFUSED_STARTS[turn % REFUSED_STARTS.len()],
             _ => start(random),
         };
         let length = 500 + random.below(8000);
@@ -93,6 +106,7 @@ pub fn events(random: &mut Random, kind: Kind, length: usize, start: (u8, u8)) -
         Kind::Faults => messages(random, length, start, FAULTS),
         Kind::Song => mutated_songs(random, length, start.0),
         Kind::Thefts => thefts(random, length),
+        Kind::StagedThefts => staged_thefts::events(random, length, start),
         Kind::LongSysEx => long_sysex(random, start),
     }
 }

@@ -1,6 +1,6 @@
 //! Shows that the comparison can fail: deliberately wrong implementations and books must be found.
 
-use crate::book::{Slip, SLIPS, WRONG_BOUNDS};
+use crate::book::{Slip, SLIPS, WRONG_BOUNDS, WRONG_THEFTS};
 use crate::compare::{Comparison, Failure};
 use crate::record::Given;
 use crate::{
@@ -15,8 +15,9 @@ use wrong::Fault;
 /// own.
 const WITHIN: u64 = 1_000_000;
 
-/// Mistakes that both sides make alike: the comparison cannot see them, the claims must.
-const SHARED: [(&str, &str); 13] = [
+/// Mistakes that both sides make alike: the comparison cannot see them, the claims must. Here they must without those
+/// of what a theft takes.
+const SHARED: [(&str, &str); 23] = [
     ("StartingOrderByChannel", "channel 10 never had more"),
     ("StartingOrderBeginsWithOne", "yet its note-on"),
     ("StartingOrderHasTenTwice", "demand 3"),
@@ -27,10 +28,47 @@ const SHARED: [(&str, &str); 13] = [
     ("SameKeyGoesOn", "demand 3"),
     ("CumulativeValueAsShare", "yet its note-on"),
     ("OldestOfAllStolen", "leaves as stolen"),
-    ("ReleasingNeverTaken", "although a generator was free"),
+    ("ReleasingNeverTaken", "demand 3"),
     ("ReleaseRenewsAge", "its last note came later"),
     ("SilentKeepsAge", "order of age: it has"),
+    ("SustainingRenewsAge", "its last note came later"),
+    ("StolenStaysSustained", "the book has"),
+    ("OldestSustainedOfAllStolen", "leaves as stolen"),
+    ("ChannelAtItsShareLosesPedalNote", "leaves as stolen"),
+    ("SustainedTakenWithReleasing", "demand 3"),
+    ("ReleasingTakenForSustained", "demand 3"),
+    ("PedalNoteBeforeReleasing", "although a generator was free"),
+    ("SustainedNotCounted", "yet its note-on"),
+    ("OnlyHeldStolen", "yet its note-on"),
+    ("OnlySustainedStolen", "yet its note-on"),
 ];
+
+/// Such mistakes about what a theft takes, each with the claim that finds it.
+const SHARED_THEFTS: [(&str, &str); 20] = [
+    ("NewNoteNotCounted", OTHER_CHANNEL),
+    ("HighestPriorityLoses", OTHER_CHANNEL),
+    ("AnotherLoserSought", OTHER_CHANNEL),
+    ("ChannelWithPedalNoteLoses", OTHER_CHANNEL),
+    ("OldestSustainedOverShareStolen", OTHER_CHANNEL),
+    ("OldestBusyStolen", PEDAL_NOTE_SPARED),
+    ("HeldStolenFirst", PEDAL_NOTE_SPARED),
+    ("OnePedalNoteSpared", PEDAL_NOTE_SPARED),
+    ("PedalFirstOnOwnChannelAlone", PEDAL_NOTE_SPARED),
+    ("PedalFirstOnOtherChannelsAlone", PEDAL_NOTE_SPARED),
+    ("PedalFirstOnChannel1Alone", PEDAL_NOTE_SPARED),
+    ("PedalFirstByPedalOfNewNote", PEDAL_NOTE_SPARED),
+    ("PedalFirstButForDrums", PEDAL_NOTE_SPARED),
+    ("NewestStolen", OLDER_SPARED),
+    ("NewestSustainedStolen", OLDER_SPARED),
+    ("NewestHeldStolen", OLDER_SPARED),
+    ("LowestNumberedSustainedStolen", OLDER_SPARED),
+    ("LowestNumberedHeldStolen", OLDER_SPARED),
+    ("FirstKeyUpStolen", OLDER_SPARED),
+    ("LastKeyUpStolen", OLDER_SPARED),
+];
+const OTHER_CHANNEL: &str = "R5.8: ";
+const PEDAL_NOTE_SPARED: &str = "down, is stolen although its channel had a note on the pedal";
+const OLDER_SPARED: &str = "is stolen, and the oldest one is on generator";
 
 /// Such mistakes about what controllers 120 to 127 end: each is found by the notes that the book has.
 const SHARED_MODE: [&str; 27] = [
@@ -92,6 +130,19 @@ pub fn variants<Slip: Copy>(
 
 /// Runs all of it and says what was not found; nothing if all is well.
 pub fn run(seed: u64) -> Vec<String> {
+    let mut complaints = wrong_devices(seed);
+    complaints.extend(wrong_books(seed));
+    complaints.extend(pages_self_test::run(seed));
+    complaints.extend(wrong_pitches(seed));
+    complaints.extend(wrong_entries(seed));
+    complaints.extend(gains_self_test::run(seed));
+    complaints.extend(hardest_song_self_test::run(seed));
+    complaints.extend(arranging_self_test::run(seed));
+    complaints
+}
+
+/// Every wrong device on one side, and those on both that the claims must find.
+fn wrong_devices(seed: u64) -> Vec<String> {
     let mut complaints = Vec::new();
     let right = Comparison {
         start_a: reference::start,
@@ -107,26 +158,27 @@ pub fn run(seed: u64) -> Vec<String> {
         complaints.extend(expect(variant.name, "", one_side(variant, seed)));
     }
     let shared_mode = SHARED_MODE.map(|name| (name, "the book has"));
-    for (name, claim) in SHARED.into_iter().chain(shared_mode) {
+    let shared = SHARED.into_iter().chain(shared_mode);
+    let shared = shared.map(|row| (row, Some(Slip::Thefts)));
+    let shared_thefts = SHARED_THEFTS.map(|row| (row, None));
+    for ((name, claim), slip) in shared.chain(shared_thefts) {
         let variant = devices.iter().find(|variant| variant.name == name);
-        let found = variant.and_then(|variant| both_sides(variant, seed));
+        let found = variant.and_then(|variant| both_sides(variant, slip, seed));
         complaints.extend(expect(&format!("{name} on both sides"), claim, found));
     }
-    for slip in SLIPS {
-        let name = format!("book without {slip:?}");
-        complaints.extend(expect(&name, "demand 3", wrong_book(slip, seed)));
-    }
-    for slip in WRONG_BOUNDS {
-        let name = format!("bound with {slip:?}");
-        complaints.extend(expect(&name, "R13.2", wrong_book(slip, seed)));
-    }
-    complaints.extend(pages_self_test::run(seed));
-    complaints.extend(wrong_pitches(seed));
-    complaints.extend(wrong_entries(seed));
-    complaints.extend(gains_self_test::run(seed));
-    complaints.extend(hardest_song_self_test::run(seed));
-    complaints.extend(arranging_self_test::run(seed));
     complaints
+}
+
+/// Books that forget a rule, and claims in a wrong form, beside right devices.
+fn wrong_books(seed: u64) -> Vec<String> {
+    let books = SLIPS.map(|slip| (slip, "demand 3"));
+    let bounds = WRONG_BOUNDS.map(|slip| (slip, "R13.2"));
+    let wrong = books.into_iter().chain(bounds).chain(WRONG_THEFTS);
+    let expected = |(slip, claim)| {
+        let name = format!("book with {slip:?} wrong");
+        expect(&name, claim, wrong_book(slip, seed))
+    };
+    wrong.filter_map(expected).collect()
 }
 
 /// Every wrong variant of a pitch, on one side.
@@ -184,11 +236,11 @@ fn one_side(variant: &WrongDevice, seed: u64) -> Option<Failure> {
     wrong::making(variant.fault, || comparison.run(seed, WITHIN).1)
 }
 
-fn both_sides(variant: &WrongDevice, seed: u64) -> Option<Failure> {
+fn both_sides(variant: &WrongDevice, slip: Option<Slip>, seed: u64) -> Option<Failure> {
     let comparison = Comparison {
         start_a: wrong_device::start,
         start_b: wrong_device::start,
-        slip: None,
+        slip,
         pages: false,
     };
     wrong::making(variant.fault, || comparison.run(seed, WITHIN).1)

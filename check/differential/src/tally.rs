@@ -1,8 +1,9 @@
-//! Counts what was reached: every kind of answer and every number must be, and what reports and mode messages can find.
+//! Counts what was reached: every kind of answer and every number must be, and what reports, mode messages and thefts
+//! can find.
 
 use crate::drums::DRUM_CHANNEL;
 use crate::record::Record;
-use paper::{Answer, Number, State, Was};
+use paper::{Answer, GeneratorView, Number, State, Was};
 use std::fmt;
 
 const KINDS: [&str; 5] = [
@@ -24,6 +25,14 @@ const MODE_MESSAGES: [&str; 4] = [
     "124 to 127, pedal down",
     "124 to 127 on 10, pedal up",
     "124 to 127 on 10, pedal down",
+];
+
+/// By the channel that loses, the new note's own or another.
+const THEFTS: [&str; 4] = [
+    "pedal note stolen, own",
+    "pedal note stolen, other's",
+    "held one stolen, own",
+    "held one stolen, other's",
 ];
 
 /// Numbers 1 to 14, each one place before its own, and those of pitches, gains, songs, logs and pages behind them.
@@ -61,6 +70,9 @@ pub struct Tally {
     reports: [u64; 3],
     /// Mode messages that found a held generator on their channel, those to channel 10 apart.
     mode_messages: [u64; 4],
+    /// Thefts of a pedal note whose channel had an older one held, and those of a held one while another channel had
+    /// pedal notes: without R5.9, or with pedal notes sought everywhere, another would have gone.
+    thefts: [u64; 4],
     /// Numbers that starts, bytes and reports answered.
     numbers: [u64; PLACES],
     /// Numbers that queries, pitches, gains, songs, logs and pages gave, apart: 1 and 12 have both.
@@ -106,6 +118,25 @@ impl Tally {
         }
     }
 
+    /// A theft of a generator for a note of a channel, from 1, and the record before it.
+    pub fn theft(&mut self, channel: u8, generator: u8, before: &Record) {
+        let view = |g: u8| before.generators[usize::from(g)];
+        let stolen = view(generator);
+        let oldest_first = || before.oldest_first.as_slice().iter().map(|&g| view(g));
+        let of_loser = |other: &GeneratorView| other.channel == stolen.channel;
+        let (row, told) = match stolen.state {
+            State::Sustained => {
+                let oldest = oldest_first().find(of_loser);
+                (0, oldest.is_some_and(|view| view.state == State::Held))
+            }
+            _ => {
+                let mut others = oldest_first().filter(|other| !of_loser(other));
+                (2, others.any(|view| view.state == State::Sustained))
+            }
+        };
+        self.thefts[row + usize::from(stolen.channel != channel)] += u64::from(told);
+    }
+
     pub fn query(&mut self, number: Number) {
         self.queries[number as usize] += 1;
     }
@@ -133,6 +164,7 @@ impl Tally {
         let kinds = KINDS.iter().zip(self.kinds);
         let kinds = kinds.chain(REPORTS.iter().zip(self.reports));
         let kinds = kinds.chain(MODE_MESSAGES.iter().zip(self.mode_messages));
+        let kinds = kinds.chain(THEFTS.iter().zip(self.thefts));
         let kinds = kinds.map(|(name, count)| (name.to_string(), count));
         let numbers = NUMBERS[..13].iter();
         let numbers = numbers.map(move |&named| row(named, &self.numbers));

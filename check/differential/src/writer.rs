@@ -94,8 +94,8 @@ const DRUM_KEYS: [u8; 14] = [36, 38, 40, 42, 44, 46, 71, 72, 73, 74, 78, 79, 80,
 
 pub struct Writer<'a> {
     pub events: Vec<Event>,
-    random: &'a mut Random,
-    polyphony: u8,
+    pub random: &'a mut Random,
+    pub polyphony: u8,
     id: u8,
     /// The channels that play in this list, and how many keys they use.
     channels: Vec<u8>,
@@ -161,7 +161,7 @@ impl Writer<'_> {
     }
 
     /// A channel message, by running status where that may be and chance has it so.
-    fn message(&mut self, status: u8, data: &[u8]) {
+    pub fn message(&mut self, status: u8, data: &[u8]) {
         if self.running != Some(status) || self.random.one_in(3) {
             self.byte(status);
             self.running = Some(status);
@@ -282,7 +282,7 @@ impl Writer<'_> {
         }
     }
 
-    fn send_mip(&mut self, d: u8, pairs: &[u8]) {
+    pub fn send_mip(&mut self, d: u8, pairs: &[u8]) {
         let mut bytes = vec![0x7F, d, 0x0B, 0x01];
         bytes.extend(pairs);
         self.sysex(&bytes);
@@ -350,7 +350,7 @@ impl Writer<'_> {
         self.sysex(&bytes);
     }
 
-    fn reset(&mut self) {
+    pub fn reset(&mut self) {
         let d = self.our_id();
         self.sysex(&[0x7E, d, 0x09, 0x01]);
     }

@@ -125,14 +125,14 @@ impl Device {
         }
     }
 
-    /// Step 5 (R5.7 to R5.10): of the channels above their share, the new note counted, the one of lowest priority
-    /// loses its oldest busy generator, if it has one.
+    /// Step 5 (R5.7 to R5.10): of the channels above their share, sustained ones and the new note counted, the one of
+    /// lowest priority loses a generator, if it has one.
     fn victim(&self, new_note: u8) -> Option<u8> {
         let over = |&(channel, share): &(u8, u8)| {
             self.generators.busy_count(channel) + u8::from(channel == new_note) > share
         };
         let (loser, _) = self.table.lowest_priority_first().find(over)?;
-        self.generators.oldest_busy(loser)
+        self.generators.to_steal(loser)
     }
 
     /// R6.2; R6.4: on channel 10 it does nothing.

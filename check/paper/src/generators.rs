@@ -100,9 +100,15 @@ impl Generators {
         self.age.oldest_of(self.releasing).map(|g| g as u8)
     }
 
-    /// R5.9: the oldest of a channel's busy ones.
-    pub(crate) fn oldest_busy(&self, channel: u8) -> Option<u8> {
-        let set = self.busy() & self.of_channel[usize::from(channel)];
+    /// R5.9: what a channel loses, its oldest sustained one or, if it has none, its oldest held one.
+    pub(crate) fn to_steal(&self, channel: u8) -> Option<u8> {
+        let of_channel = self.of_channel[usize::from(channel)];
+        let sustained = self.sustained & of_channel;
+        let set = if sustained != 0 {
+            sustained
+        } else {
+            self.held & of_channel
+        };
         self.age.oldest_of(set).map(|g| g as u8)
     }
 

@@ -27,6 +27,24 @@ pub fn held_before_the_newest(generators: &Generators, channel: u8) -> Vec<u8> {
     keys
 }
 
+/// The oldest busy generator of a channel on the wire, sustained or held.
+pub fn oldest_busy(generators: &Generators, channel: u8) -> Option<u8> {
+    let mut oldest_first = generators.oldest_first();
+    oldest_first.find(|&g| {
+        let view = generators.view(g);
+        view.channel == channel + 1 && view.state != State::Releasing
+    })
+}
+
+/// The oldest sustained generator of those channels on the wire that count.
+pub fn oldest_sustained(generators: &Generators, counts: impl Fn(u8) -> bool) -> Option<u8> {
+    let mut oldest_first = generators.oldest_first();
+    oldest_first.find(|&g| {
+        let view = generators.view(g);
+        view.state == State::Sustained && counts(view.channel - 1)
+    })
+}
+
 /// A weight before it is rounded (R12.4), at any place.
 pub fn sine(place: f64) -> f64 {
     32768.0 * (std::f64::consts::PI * place / 252.0).sin()
