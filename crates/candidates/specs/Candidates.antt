@@ -2,7 +2,8 @@
 use Prim.Native.Nat.{ℕ}
 use mathlib.Core.Bool.{Bool, _&&_}
 use mathlib.Core.Option.{Option, some, none}
-use Rattle.loops.specs.Cases.{bit, atMost}
+use lib.Dec.{eqb}
+use Rattle.loops.specs.Cases.{if_then_else_, bit, atMost}
 use Rattle.loops.specs.Passes.{upTo, total, firstOf}
 use Rattle.ages.specs.Ages.{oldestFirst}
 use Rattle.generators.specs.declared.Generators.{Generators}
@@ -29,6 +30,11 @@ wanted (BusyOn c) x = isBusyOn c x
 
 unfoldable pub oldest : Want → Generators → Found
 oldest w s = found (firstOf (λ g. wanted w (at s g)) (oldestFirst (s .ages)))
+
+-- R5.9: which of a channel's busy generators are stolen first: the sustained ones, and the held ones where there is
+-- none sustained
+unfoldable pub stolenFirst : Generators → ℕ → Want
+stolenFirst s c = if eqb (total (λ g. bit (wanted (SustainedOn c) (at s g))) 64) 0 then HeldOn c else SustainedOn c
 
 -- R5.7: the busy generators of a channel
 unfoldable pub busyCount : Generators → ℕ → ℕ

@@ -9,7 +9,7 @@ ghost use Rattle.loops.specs.Cases.{bit};
 ghost use Rattle.loops.specs.Passes.{total, firstOf, marksOf};
 ghost use Rattle.ages.specs.Ages.{oldestFirst};
 ghost use Rattle.generators.specs.Generators.{generator};
-ghost use Rattle.candidates.specs.Candidates.{found, lowestIdle, wanted, oldest, busyCount};
+ghost use Rattle.candidates.specs.Candidates.{found, lowestIdle, wanted, oldest, stolenFirst, busyCount};
 use ages::Ages;
 use generators::Generators;
 
@@ -117,6 +117,20 @@ pub fn oldest(generators: Generators, want: Want) -> Found
     }
     let order = generators.ages;
     first_marked(order, marks(state, channel, want))
+}
+
+// Which of a channel's busy generators are stolen first: a key that is still down is heard to break off, and what only
+// the pedal holds often is not.
+pub fn stolen_first(generators: Generators, channel: u8) -> Want
+    ensures { λ r. ⌜ r ≡ stolenFirst generators channel ⌝ }
+{
+    let state = generators.state;
+    let channels = generators.channel;
+    let pedal = Want::SustainedOn(channel);
+    if how_many(state, channels, pedal) == 0 {
+        return Want::HeldOn(channel);
+    }
+    pedal
 }
 
 // How many generators are busy on a channel.

@@ -4,7 +4,7 @@
 use mathlib.Core.Path.{_≡_, refl, sym, ap, _∙_, subst}
 use mathlib.Core.Bool.{Bool, true, false, _&&_, true≢false, false≢true}
 use mathlib.Core.List.{List, [], _∷_, _++_}
-use mathlib.Core.Option.{Option, some, none}
+use mathlib.Core.Option.{Option, some, none, Option·some-ne-none}
 use Prim.Native.Nat.{ℕ, zero, suc, _+_, _≤_, _<_}
 use native.Mathlib.Omega.{arith}
 use borrow.Author.Tests.{ltb-true, ltb-false, eqb-true, eqb-false, eq-eqb}
@@ -25,9 +25,10 @@ use Rattle.shares.specs.Shares.{shares, sum, lookup}
 use Rattle.ages.specs.Ages.{oldestFirst}
 use Rattle.generators.specs.declared.Generators.{Generators}
 use Rattle.generators.specs.Generators.{Generator, at, isIdle, isHeld, isSustained, isReleasing, isOn, isBusyOn}
-use Rattle.candidates.specs.declared.Want.the-variants.{Releasing}
-use Rattle.candidates.specs.Candidates.{found, lowestIdle, wanted, oldest, busyCount}
-use Rattle.stealing.specs.Stealing.{counted, otherwise, overShare, toLoser, stealFrom, firstFound, loses, victim}
+use Rattle.candidates.specs.declared.Want.the-variants.{Releasing, SustainedOn, HeldOn}
+use Rattle.candidates.specs.Candidates.{found, lowestIdle, wanted, oldest, stolenFirst, busyCount}
+use Rattle.candidates.proofs.Wanted.{found-none}
+use Rattle.stealing.specs.Stealing.{counted, otherwise, overShare, toLoser, stealFrom, loses, victim}
 use Rattle.allocation.specs.declared.Was.{Was}
 use Rattle.allocation.specs.declared.Was.the-variants.{Idle, Release, Stolen}
 use Rattle.allocation.specs.declared.Taken.{Taken}
@@ -233,19 +234,60 @@ module _ (p : ℕ) (n : ℕ → Slot) (s : Generators) (o : Playable p s) (e : S
       go empty y = ap f y ∙ z
       go (note p d k) y = h g (note-in-order g (ap isNote y))
 
-  -- the device's two searches are those of the notes
-  loses-notes : (d : ℕ) → loses s (toLoser (some d)) ≡ found (firstToGo n (oldestFirst (s .ages)) d)
-  unfolding oldest wanted
-  loses-notes d = rw (
-    first-same (λ g. isSustained (at s g) && isOn d (at s g)) (λ g. isOnPedal (n g) && isOf d (n g))
-        (λ g. pedal-slot d (at s g) ∙ ap (λ (x : Slot). isOnPedal x && isOf d x) (sym (e g))) (oldestFirst (s .ages)),
-    first-same (λ g. isHeld (at s g) && isOn d (at s g)) (λ g. isDown (n g) && isOf d (n g))
-        (λ g. down-slot d (at s g) ∙ ap (λ (x : Slot). isDown x && isOf d x) (sym (e g))) (oldestFirst (s .ages)),
-  ) (go (firstOf (λ g. isOnPedal (n g) && isOf d (n g)) (oldestFirst (s .ages))) _)
+  -- the device's searches are those of the notes
+  pedal-search : (d : ℕ) → firstOf (λ g. isSustained (at s g) && isOn d (at s g)) (oldestFirst (s .ages))
+      ≡ firstOf (λ g. isOnPedal (n g) && isOf d (n g)) (oldestFirst (s .ages))
+  pedal-search d = first-same (λ g. isSustained (at s g) && isOn d (at s g)) (λ g. isOnPedal (n g) && isOf d (n g))
+      (λ g. pedal-slot d (at s g) ∙ ap (λ (x : Slot). isOnPedal x && isOf d x) (sym (e g))) (oldestFirst (s .ages))
+
+  down-search : (d : ℕ) → firstOf (λ g. isHeld (at s g) && isOn d (at s g)) (oldestFirst (s .ages))
+      ≡ firstOf (λ g. isDown (n g) && isOf d (n g)) (oldestFirst (s .ages))
+  down-search d = first-same (λ g. isHeld (at s g) && isOn d (at s g)) (λ g. isDown (n g) && isOf d (n g))
+      (λ g. down-slot d (at s g) ∙ ap (λ (x : Slot). isDown x && isOf d x) (sym (e g))) (oldestFirst (s .ages))
+
+  -- a search along the order of age for sustained ones finds one exactly where one is counted
+  none-sustained : (d : ℕ) → total (λ g. bit (isSustained (at s g) && isOn d (at s g))) 64 ≡ 0
+      → firstOf (λ g. isSustained (at s g) && isOn d (at s g)) (oldestFirst (s .ages)) ≡ none
+  unfolding wanted
+  none-sustained d z =
+      found-none (SustainedOn d) (s .state) (s .channel) (s .key) (o .ordered .sized .states) z (oldestFirst (s .ages))
+
+  some-sustained : (d : ℕ) → firstOf (λ g. isOnPedal (n g) && isOf d (n g)) (oldestFirst (s .ages)) ≡ none
+      → total (λ g. bit (isSustained (at s g) && isOn d (at s g))) 64 ≡ 0
+  unfolding total
+  some-sustained d y =
+      total-cut (λ (g : ℕ). bit (isSustained (at s g) && isOn d (at s g))) 0 64 (omega arith)
+      (λ g k. ap bit (pedal-slot d (at s g) ∙ ap (λ (x : Slot). isOnPedal x && isOf d x) (sym (e g)) ∙ all g))
     where
-      go : (x y : Option ℕ) → firstFound (found x) (found y) ≡ found (otherwise x y)
-      go (some g) y = refl
-      go none y = refl
+      missed : (x : Option ℕ) → x ≡ none → Picked (λ g. isOnPedal (n g) && isOf d (n g)) (oldestFirst (s .ages)) x
+          → (g : ℕ) → 1 ≤ occurs g (oldestFirst (s .ages)) → isOnPedal (n g) && isOf d (n g) ≡ false
+      missed x z (some-one h b k) = absurd (Option·some-ne-none h z)
+      missed x z (no-one h) = h
+
+      all : (g : ℕ) → isOnPedal (n g) && isOf d (n g) ≡ false
+      all = none-at-all (λ x. isOnPedal x && isOf d x) refl
+          (missed _ y (first-law (λ g. isOnPedal (n g) && isOf d (n g)) (oldestFirst (s .ages))))
+
+  loses-notes : (d : ℕ) → loses s (toLoser (some d)) ≡ found (firstToGo n (oldestFirst (s .ages)) d)
+  unfolding oldest wanted stolenFirst
+  loses-notes d = go (eqb (total (λ g. bit (isSustained (at s g) && isOn d (at s g))) 64) 0) refl
+    where
+      pedal : Option ℕ
+      pedal = firstOf (λ g. isOnPedal (n g) && isOf d (n g)) (oldestFirst (s .ages))
+
+      there : (x : Option ℕ) → pedal ≡ x → eqb (total (λ g. bit (isSustained (at s g) && isOn d (at s g))) 64) 0 ≡ false
+          → (y : Option ℕ) → found x ≡ found (otherwise x y)
+      there (some g) r q y = refl
+      there none r q y = absurd (true≢false (sym (eq-eqb _ _ (some-sustained d r)) ∙ q))
+
+      go : (b : Bool) → eqb (total (λ g. bit (isSustained (at s g) && isOn d (at s g))) 64) 0 ≡ b
+          → found (firstOf (λ g. wanted (if b then HeldOn d else SustainedOn d) (at s g)) (oldestFirst (s .ages)))
+          ≡ found (firstToGo n (oldestFirst (s .ages)) d)
+      go true q =
+          let z : pedal ≡ none = sym (pedal-search d) ∙ none-sustained d (eqb-true _ _ q) in
+          ap found (down-search d ∙ sym (ap (λ (x : Option ℕ). otherwise x
+          (firstOf (λ g. isDown (n g) && isOf d (n g)) (oldestFirst (s .ages)))) z))
+      go false q = ap found (pedal-search d) ∙ there pedal refl q _
 
   -- what the searches find
   data Lost (d : ℕ) : Option ℕ → Type 0 where

@@ -9,9 +9,8 @@ use Rattle.table.specs.declared.Table.{Table}
 use Rattle.shares.specs.Shares.{shares}
 use Rattle.generators.specs.declared.Generators.{Generators}
 use Rattle.candidates.specs.declared.Found.{Found}
-use Rattle.candidates.specs.declared.Found.the-variants.{At, Nothing}
-use Rattle.candidates.specs.declared.Want.the-variants.{SustainedOn, HeldOn}
-use Rattle.candidates.specs.Candidates.{oldest, busyCount}
+use Rattle.candidates.specs.declared.Found.the-variants.{Nothing}
+use Rattle.candidates.specs.Candidates.{oldest, stolenFirst, busyCount}
 use Rattle.stealing.specs.declared.Loser.{Loser}
 use Rattle.stealing.specs.declared.Loser.the-variants.{Channel, Nobody}
 
@@ -36,14 +35,9 @@ toLoser none = Nobody
 unfoldable pub stealFrom : Generators → Table → ℕ → ℕ → Loser
 stealFrom s t p new = toLoser (overShare (counted s new) (shares p t))
 
--- what a search found or, where it found nothing, what the next one did
-abbrev pub firstFound : Found → Found → Found
-firstFound (At g) f = At g
-firstFound Nothing f = f
-
 -- R5.9: its oldest sustained generator, and its oldest held one where it has none sustained; R5.10: there may be none
 abbrev pub loses : Generators → Loser → Found
-loses s (Channel d) = firstFound (oldest (SustainedOn d) s) (oldest (HeldOn d) s)
+loses s (Channel d) = oldest (stolenFirst s d) s
 loses s Nobody = Nothing
 
 -- step 5 whole: the generator that a new note of this channel steals, where all are busy

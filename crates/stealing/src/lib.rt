@@ -6,7 +6,6 @@ ghost use mathlib.Core.Bool.{_&&_};
 ghost use lib.Dec.{leb, ltb};
 ghost use Rattle.stealing.specs.Stealing.{counted, stealFrom, victim};
 use candidates::Found;
-use candidates::Want;
 use generators::Generators;
 use table::Entry;
 use table::Table;
@@ -53,15 +52,12 @@ fn steal_from(generators: Generators, table: Table, polyphony: u8, channel: u8) 
 }
 
 // The generator that a new note of the channel steals where all are busy: of the channel to steal from the oldest
-// sustained one, since a key that is still down is heard to break off, and the oldest held one where none is sustained.
+// sustained one, and the oldest held one where none is sustained.
 pub fn victim(generators: Generators, table: Table, polyphony: u8, channel: u8) -> Found
     ensures { λ r. ⌜ r ≡ victim generators table polyphony channel ⌝ }
 {
     let Loser::Channel(d) = steal_from(generators, table, polyphony, channel) else {
         return Found::Nothing;
     };
-    if let Found::At(g) = candidates::oldest(generators, Want::SustainedOn(d)) {
-        return Found::At(g);
-    }
-    candidates::oldest(generators, Want::HeldOn(d))
+    candidates::oldest(generators, candidates::stolen_first(generators, d))
 }
