@@ -13,11 +13,10 @@ use Rattle.loops.specs.Cases.{bit}
 use Rattle.loops.specs.Passes.{total, firstOf, marksOf}
 use Rattle.loops.proofs.Search.{first-none, first-same}
 use Rattle.loops.proofs.Marks.{a-mark}
-use Rattle.generators.specs.declared.Generators.{Generators}
 use Rattle.generators.specs.Generators.{generator}
 use Rattle.candidates.specs.declared.Want.{Want}
 use Rattle.candidates.specs.declared.Want.the-variants.{Releasing, SustainedOn, HeldOn, BusyOn}
-use Rattle.candidates.specs.Candidates.{wanted, pedalFirst, stolenFirst}
+use Rattle.candidates.specs.Candidates.{wanted}
 
 -- whether generator g is wanted, by the numbers in the record; the key is no matter
 abbrev pub wantedAt : Want → List ℕ → List ℕ → ℕ → Bool
@@ -42,12 +41,6 @@ pub wanted-none : (w : Want) (state channel : List ℕ) → length state ≡ 64
     → (g : ℕ) → 64 ≤ g → wantedAt w state channel g ≡ false
 wanted-none w state channel e g h =
     rw (List·getD-eq-default state 0 {n = g} (omega arith)) (idle-unwanted w (getD channel g 0) 0)
-
--- which go first, by the count of the sustained ones
-pub first-stolen : (s : Generators) (c n : ℕ)
-    → n ≡ total (λ g. bit (wantedAt (SustainedOn c) (s .state) (s .channel) g)) 64 → pedalFirst n c ≡ stolenFirst s c
-unfolding stolenFirst wanted
-first-stolen s c n e = ap (λ (m : ℕ). pedalFirst m c) e
 
 -- ---- the search along the order of age, by marks
 

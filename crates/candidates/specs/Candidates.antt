@@ -31,13 +31,10 @@ wanted (BusyOn c) x = isBusyOn c x
 unfoldable pub oldest : Want → Generators → Found
 oldest w s = found (firstOf (λ g. wanted w (at s g)) (oldestFirst (s .ages)))
 
--- R5.9: which of a channel's busy generators are stolen first, where n of them are sustained: these, and the held ones
--- where there is none
-abbrev pub pedalFirst : ℕ → ℕ → Want
-pedalFirst n c = if eqb n 0 then HeldOn c else SustainedOn c
-
+-- R5.9: which of a channel's busy generators are stolen first: the sustained ones, and the held ones where there is
+-- none sustained
 unfoldable pub stolenFirst : Generators → ℕ → Want
-stolenFirst s c = pedalFirst (total (λ g. bit (wanted (SustainedOn c) (at s g))) 64) c
+stolenFirst s c = if eqb (total (λ g. bit (wanted (SustainedOn c) (at s g))) 64) 0 then HeldOn c else SustainedOn c
 
 -- R5.7: the busy generators of a channel
 unfoldable pub busyCount : Generators → ℕ → ℕ

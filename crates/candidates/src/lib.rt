@@ -9,8 +9,7 @@ ghost use Rattle.loops.specs.Cases.{bit};
 ghost use Rattle.loops.specs.Passes.{total, firstOf, marksOf};
 ghost use Rattle.ages.specs.Ages.{oldestFirst};
 ghost use Rattle.generators.specs.Generators.{generator};
-ghost use Rattle.candidates.specs.Candidates.{found, lowestIdle, wanted, oldest};
-ghost use Rattle.candidates.specs.Candidates.{pedalFirst, stolenFirst, busyCount};
+ghost use Rattle.candidates.specs.Candidates.{found, lowestIdle, wanted, oldest, stolenFirst, busyCount};
 use ages::Ages;
 use generators::Generators;
 
@@ -120,31 +119,18 @@ pub fn oldest(generators: Generators, want: Want) -> Found
     first_marked(order, marks(state, channel, want))
 }
 
-// Which of a channel's busy generators are stolen first, by how many are sustained: a key that is still down is heard to
-// break off, and what only the pedal holds often is not.
-fn pedal_first(sustained: u8, channel: u8) -> Want
-    ensures { λ r. ⌜ r ≡ pedalFirst sustained channel ⌝ }
-{
-    if sustained == 0 {
-        return Want::HeldOn(channel);
-    }
-    Want::SustainedOn(channel)
-}
-
-// The generator of a channel that is stolen, if it has one. Not by a call of `oldest`: a second copy of the generators
-// would stand on the stack of every note-on.
-pub fn oldest_to_steal(generators: Generators, channel: u8) -> Found
-    ensures { λ r. ⌜ r ≡ oldest (stolenFirst generators channel) generators ⌝ }
+// Which of a channel's busy generators are stolen first: a key that is still down is heard to break off, and what only
+// the pedal holds often is not.
+pub fn stolen_first(generators: Generators, channel: u8) -> Want
+    ensures { λ r. ⌜ r ≡ stolenFirst generators channel ⌝ }
 {
     let state = generators.state;
     let channels = generators.channel;
-    let sustained = how_many(state, channels, Want::SustainedOn(channel));
-    let want = pedal_first(sustained, channel);
-    if how_many(state, channels, want) == 0 {
-        return Found::Nothing;
+    let pedal = Want::SustainedOn(channel);
+    if how_many(state, channels, pedal) == 0 {
+        return Want::HeldOn(channel);
     }
-    let order = generators.ages;
-    first_marked(order, marks(state, channels, want))
+    pedal
 }
 
 // How many generators are busy on a channel.

@@ -23,7 +23,7 @@ use Rattle.ages.specs.Ages.{agesOf, newest}
 use Rattle.generators.specs.Generators.{assigned, silent}
 use Rattle.releases.specs.Releases.{changes, stateAfter, changed}
 use Rattle.silence.specs.Silence.{isAmong, leaves, silenced}
-use Rattle.candidates.specs.Candidates.{lowestIdle, wanted, oldest, busyCount}
+use Rattle.candidates.specs.Candidates.{lowestIdle, wanted, oldest, stolenFirst, busyCount}
 use Rattle.stealing.specs.Stealing.{overShare, stealFrom, victim}
 use Rattle.allocation.specs.Allocation.{cleared, choice, noteOn}
 use Rattle.instrument.specs.Instrument.{fresh, isRhythm}
@@ -95,7 +95,7 @@ fixed : P1 ++ P2 ++ (mask IsUnmasked ∷ []) ++ (mask IsMasked ∷ []) ++ P5 ++ 
 unfolding upTo total filterBy firstOf padded begun stored oneDataByte completed dataByte opened ended statusByte
     split decode tableOf startTable listed sharesFrom lookup shareOf shareQuery isMip isSystemOn kindOf pairs faulty
     judged groupOf excludes agesOf newest assigned silent changes stateAfter changed isAmong leaves silenced lowestIdle
-    wanted oldest busyCount overShare stealFrom victim cleared choice noteOn fresh isRhythm masked playNoteOn played
+    wanted oldest stolenFirst busyCount overShare stealFrom victim cleared choice noteOn fresh isRhythm masked playNoteOn played
     started newTable mipTaken exclusive heard byteTaken afterBytes generatorQuery P1 P2 P5 P6 P7 P8 P9 printed
 fixed = refl
 

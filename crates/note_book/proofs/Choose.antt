@@ -245,17 +245,17 @@ module _ (p : ℕ) (n : ℕ → Slot) (s : Generators) (o : Playable p s) (e : S
   down-search d = first-same (λ g. isHeld (at s g) && isOn d (at s g)) (λ g. isDown (n g) && isOf d (n g))
       (λ g. down-slot d (at s g) ∙ ap (λ (x : Slot). isDown x && isOf d x) (sym (e g))) (oldestFirst (s .ages))
 
-  -- a search along the order of age for sustained ones finds one exactly where one is counted
+  -- a search along the order of age for sustained ones finds none exactly where none is counted
   none-sustained : (d : ℕ) → total (λ g. bit (isSustained (at s g) && isOn d (at s g))) 64 ≡ 0
       → firstOf (λ g. isSustained (at s g) && isOn d (at s g)) (oldestFirst (s .ages)) ≡ none
   unfolding wanted
   none-sustained d z =
       found-none (SustainedOn d) (s .state) (s .channel) (s .key) (o .ordered .sized .states) z (oldestFirst (s .ages))
 
-  some-sustained : (d : ℕ) → firstOf (λ g. isOnPedal (n g) && isOf d (n g)) (oldestFirst (s .ages)) ≡ none
+  none-counted : (d : ℕ) → firstOf (λ g. isOnPedal (n g) && isOf d (n g)) (oldestFirst (s .ages)) ≡ none
       → total (λ g. bit (isSustained (at s g) && isOn d (at s g))) 64 ≡ 0
   unfolding total
-  some-sustained d y =
+  none-counted d y =
       total-cut (λ (g : ℕ). bit (isSustained (at s g) && isOn d (at s g))) 0 64 (omega arith)
       (λ g k. ap bit (pedal-slot d (at s g) ∙ ap (λ (x : Slot). isOnPedal x && isOf d x) (sym (e g)) ∙ all g))
     where
@@ -278,7 +278,7 @@ module _ (p : ℕ) (n : ℕ → Slot) (s : Generators) (o : Playable p s) (e : S
       there : (x : Option ℕ) → pedal ≡ x → eqb (total (λ g. bit (isSustained (at s g) && isOn d (at s g))) 64) 0 ≡ false
           → (y : Option ℕ) → found x ≡ found (otherwise x y)
       there (some g) r q y = refl
-      there none r q y = absurd (true≢false (sym (eq-eqb _ _ (some-sustained d r)) ∙ q))
+      there none r q y = absurd (true≢false (sym (eq-eqb _ _ (none-counted d r)) ∙ q))
 
       go : (b : Bool) → eqb (total (λ g. bit (isSustained (at s g) && isOn d (at s g))) 64) 0 ≡ b
           → found (firstOf (λ g. wanted (if b then HeldOn d else SustainedOn d) (at s g)) (oldestFirst (s .ages)))

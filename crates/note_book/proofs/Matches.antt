@@ -210,6 +210,10 @@ note-law i b m c k = rw (same-rhythm i b m c) (go (isMasked (of-table.shareOf (i
         ap (lossAnswer c k) (sym (foretells b n (same-notes w) s seen l
         (follows-cleared r c k (i .generators) (m .playable .ordered) l f) c d x o e))
 
+    unmasked : {l : List ℕ} {a : Answer} → isMasked (shareOf b c) ≡ false
+        → (IsFull b c k → a ≡ lossAnswer c k (goes b l c)) → Foretold l b a c k
+    unmasked u f = record { masked = λ v. absurd (false≢true (sym u ∙ v)); full = λ v. f }
+
     -- a note on a generator that had none, though all had
     no-gap : IsFull b c k → (g : ℕ) → g < p → n g ≡ empty → ⊥
     no-gap w g h e = false≢true (sym (ap isNote (sym (same-notes w g) ∙ e)) ∙ w g h .0)
@@ -246,7 +250,7 @@ note-law i b m c k = rw (same-rhythm i b m c) (go (isMasked (of-table.shareOf (i
           outcome = served g w u z e;
           matches = taking l g h;
           follows = newest g h;
-          foretold = λ y a v f. absurd (no-gap f g h e);
+          foretold = λ y a. unmasked u (λ f. absurd (no-gap f g h e));
           pedal-first = λ x y. absurd (false≢true (sym (ap (λ (z : Slot). isDown z && isOf x z) e) ∙ y));
         }
     take u l t (theft g d f h e v o r last) =
@@ -254,7 +258,7 @@ note-law i b m c k = rw (same-rhythm i b m c) (go (isMasked (of-table.shareOf (i
           outcome = robbed g d u (full f) e v;
           matches = taking l g h;
           follows = newest g h;
-          foretold = λ y a v w. told w y a d (some g) o r;
+          foretold = λ y a. unmasked u (λ w. told w y a d (some g) o r);
           pedal-first = key-last g d (full f) e last;
         }
     take u l t (shut f v z o r) =
@@ -262,7 +266,7 @@ note-law i b m c k = rw (same-rhythm i b m c) (go (isMasked (of-table.shareOf (i
           outcome = turned u (full f) v;
           matches = same;
           follows = λ l f. f;
-          foretold = λ y a v w. told w y a c none o r;
+          foretold = λ y a. unmasked u (λ w. told w y a c none o r);
           pedal-first = λ x y. absurd (false≢true y);
         }
 
@@ -275,7 +279,7 @@ note-law i b m c k = rw (same-rhythm i b m c) (go (isMasked (of-table.shareOf (i
           outcome = masked z;
           matches = same;
           follows = λ l f. f;
-          foretold = λ l f u. absurd (false≢true (sym u ∙ z));
+          foretold = λ l f. record { masked = λ v. refl; full = λ v. absurd (false≢true (sym v ∙ z)) };
           pedal-first = λ x y. absurd (false≢true y);
         }
     go false e =

@@ -27,7 +27,7 @@ use Rattle.note_book.specs.Book as of-book
 use Rattle.note_book.specs.Claim.{IsWithin, isLoss, isServed, Fair, Safe, IsInRun, System, after}
 use Rattle.note_book.specs.Claim.{AtNoteOn, IsExact, Always, Each, IsRun, StaysWithin, Demand3, Live, begin}
 use Rattle.note_book.specs.Age.{named, byAnswers}
-use Rattle.note_book.specs.WhoLoses.{firstToGo, goes, lossAnswer, Foretold, PedalFirst, EachForetold}
+use Rattle.note_book.specs.WhoLoses.{firstToGo, goes, lossAnswer, Foretold, PedalFirst, EachForetold, WhoLoses}
 use Rattle.note_book.proofs.Demand3.{demand-3}
 
 -- ---- the words, whatever the device
@@ -117,12 +117,16 @@ not-lost b c k (Number n) u e = absurd (false≢true (sym e ∙ ap not u))
 
 -- ---- who loses: the words, whatever the device
 
--- where a note must go, the answer is the one on paper, whatever the channel and the book
+-- wherever a note is lost the answer is the one on paper, whatever the channel and the book
 pub answer-foretold : (order : List ℕ) (b : Book) (a : Answer) (c k : ℕ) → Foretold order b a c k
     → isMasked (of-book.shareOf b c) ≡ false → ((g : ℕ) → g < b .polyphony
     → (isNote (b .notes g) ≡ true) × (isEnded (of-book.isRhythm b c) c k (b .notes g) ≡ false))
     → a ≡ lossAnswer c k (goes b order c)
-answer-foretold order b a c k f = f
+answer-foretold order b a c k f = f .full
+
+pub mask-foretold : (order : List ℕ) (b : Book) (a : Answer) (c k : ℕ) → Foretold order b a c k
+    → isMasked (of-book.shareOf b c) ≡ true → a ≡ NoNote 10 c k
+mask-foretold order b a c k f = f .masked
 
 -- a note on the pedal goes before one that is down, however old that is; and a key goes where none is on the pedal
 pub pedal-goes : (n : ℕ → Slot) (order : List ℕ) (d g : ℕ)
@@ -141,20 +145,32 @@ pub key-unstolen : (b : Book) (c k d g h : ℕ) (w : Was)
 key-unstolen b c k d g h w e p f = false≢true (sym (f d e h) ∙ p)
 
 -- both are claimed at every event of a list; the order of age is that of the answers before it
-pub foretold-at : (S : System) (order : List ℕ) (s : S .State) (pre : List (S .Event)) (e : S .Event)
+each-foretold : (S : System) (order : List ℕ) (s : S .State) (pre : List (S .Event)) (e : S .Event)
     (post : List (S .Event)) → EachForetold S order s (pre ++ (e ∷ post))
     → AtNoteOn (Foretold (byAnswers S order s pre) (S .book (after S s pre)) (S .answer (after S s pre) e))
     (S .hears (after S s pre) e)
 unfolding after
-foretold-at S order s [] e post f = f .0
-foretold-at S order s (x ∷ pre) e post f = foretold-at S (named order (S .answer s x)) (S .next s x) pre e post (f .1)
+each-foretold S order s [] e post f = f .0
+each-foretold S order s (x ∷ pre) e post f =
+    each-foretold S (named order (S .answer s x)) (S .next s x) pre e post (f .1)
 
-pub each-at : (S : System) (F : Book → Answer → ℕ → ℕ → Type 0) (s : S .State) (pre : List (S .Event)) (e : S .Event)
+each-at : (S : System) (F : Book → Answer → ℕ → ℕ → Type 0) (s : S .State) (pre : List (S .Event)) (e : S .Event)
     (post : List (S .Event)) → Each S F s (pre ++ (e ∷ post))
     → AtNoteOn (F (S .book (after S s pre)) (S .answer (after S s pre) e)) (S .hears (after S s pre) e)
 unfolding after
 each-at S F s [] e post f = f .0
 each-at S F s (x ∷ pre) e post f = each-at S F (S .next s x) pre e post (f .1)
+
+pub foretold-at : (S : System) (s : S .State) (pre : List (S .Event)) (e : S .Event) (post : List (S .Event))
+    → WhoLoses S s (pre ++ (e ∷ post))
+    → AtNoteOn (Foretold (byAnswers S [] s pre) (S .book (after S s pre)) (S .answer (after S s pre) e))
+    (S .hears (after S s pre) e)
+foretold-at S s pre e post w = each-foretold S [] s pre e post (w .foretold)
+
+pub pedal-first-at : (S : System) (s : S .State) (pre : List (S .Event)) (e : S .Event) (post : List (S .Event))
+    → WhoLoses S s (pre ++ (e ∷ post))
+    → AtNoteOn (PedalFirst (S .book (after S s pre)) (S .answer (after S s pre) e)) (S .hears (after S s pre) e)
+pedal-first-at S s pre e post w = each-at S PedalFirst s pre e post (w .pedal-first)
 
 -- ---- the end of any list
 

@@ -47,10 +47,11 @@ lossAnswer c k none = NoNote 11 c k
 
 -- ---- what is claimed at a note-on of channel c and key k with answer a
 
--- R10.11: where a note must go, the answer is the one on paper
-abbrev pub Foretold : List ℕ → Book → Answer → ℕ → ℕ → Type 0
-Foretold order b a c k =
-    isMasked (shareOf b c) ≡ false → IsFull b c k → a ≡ lossAnswer c k (goes b order c)
+-- R10.11: wherever a note is lost the answer is the one on paper: number 10 on a masked channel, and on another where
+-- every generator has a note and the new one ends none
+pub record Foretold (order : List ℕ) (b : Book) (a : Answer) (c k : ℕ) : Type 0 where
+  pub masked : isMasked (shareOf b c) ≡ true → a ≡ NoNote 10 c k
+  pub full : isMasked (shareOf b c) ≡ false → IsFull b c k → a ≡ lossAnswer c k (goes b order c)
 
 -- R10.12: a note that is down leaves as stolen only where its channel, d, has none on the pedal
 abbrev pub PedalFirst : Book → Answer → ℕ → ℕ → Type 0

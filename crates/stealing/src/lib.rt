@@ -59,5 +59,5 @@ pub fn victim(generators: Generators, table: Table, polyphony: u8, channel: u8) 
     let Loser::Channel(d) = steal_from(generators, table, polyphony, channel) else {
         return Found::Nothing;
     };
-    candidates::oldest_to_steal(generators, d)
+    candidates::oldest(generators, candidates::stolen_first(generators, d))
 }

@@ -19,14 +19,16 @@ use Rattle.ages.specs.Ages.{agesOf, newest}
 use Rattle.generators.specs.Generators.{assigned, silent}
 use Rattle.releases.specs.Releases.{changes, stateAfter, changed}
 use Rattle.silence.specs.Silence.{isAmong, leaves, silenced}
-use Rattle.candidates.specs.Candidates.{lowestIdle, wanted, oldest, busyCount}
+use Rattle.candidates.specs.Candidates.{lowestIdle, wanted, oldest, stolenFirst, busyCount}
 use Rattle.stealing.specs.Stealing.{overShare, stealFrom, victim}
+use Rattle.allocation.specs.declared.Was.{Was}
 use Rattle.allocation.specs.declared.Was.the-variants.{Stolen}
 use Rattle.allocation.specs.Allocation.{cleared, choice, noteOn}
 use Rattle.instrument.specs.Instrument.{fresh, isRhythm, channelOf, withChannel}
 use Rattle.controllers.specs.Controllers.{controlled}
 use Rattle.controllers.specs.Controllers as of-controllers
 use Rattle.other_messages.specs.OtherMessages.{notesAfter, playNoteOff, playControl}
+use Rattle.playing.specs.declared.Answer.{Answer}
 use Rattle.playing.specs.declared.Answer.the-variants.{Note}
 use Rattle.playing.specs.Playing.{playNoteOn, played}
 use Rattle.device.specs.Device.{started, heard, byteTaken}
@@ -38,10 +40,10 @@ use Rattle.note_book.specs.Book.{note, message, isNote, isOf, isEnded, keepMess
 use Rattle.note_book.specs.Book as of-book
 use Rattle.note_book.specs.Claim.{stolenNote, isLoss, IsFull, isServed, AtNoteOn, after, Both, Live, begin}
 use Rattle.note_book.specs.Age.{byAnswers}
-use Rattle.note_book.specs.WhoLoses.{payer, goes, lossAnswer, Foretold}
+use Rattle.note_book.specs.WhoLoses.{payer, goes, lossAnswer, Foretold, PedalFirst}
 use Rattle.note_book.proofs.Demand3.{demand-3, who-loses}
 use Rattle.reports.specs.Reports.{reported}
-use Rattle.note_book.proofs.Witness.{IsGiven, not-lost, foretold-at}
+use Rattle.note_book.proofs.Witness.{IsGiven, not-lost, key-unstolen, foretold-at, pedal-first-at}
 
 -- ---- arithmetic on numerals, apart from the lists: what a tactic finds in reach it computes
 
@@ -125,8 +127,8 @@ pub theft-when-full : (isLoss (theft .book) 10 36 (Live .answer theft (Byte 64))
     × ((isNote (theft .book .notes 0) ≡ true) × (isEnded true 10 36 (theft .book .notes 0) ≡ false))
 unfolding upTo total filterBy firstOf padded begun stored oneDataByte completed dataByte opened ended statusByte
     split decode tableOf startTable sharesFrom lookup shareOf groupOf excludes agesOf newest assigned silent
-    changes stateAfter changed isAmong leaves silenced lowestIdle wanted oldest busyCount overShare stealFrom victim
-    cleared choice noteOn fresh isRhythm playNoteOn played started heard byteTaken taken keepMessage keep after
+    changes stateAfter changed isAmong leaves silenced lowestIdle wanted oldest stolenFirst busyCount overShare
+    stealFrom victim cleared choice noteOn fresh isRhythm playNoteOn played started heard byteTaken taken keepMessage keep after
 theft-when-full =
     let lost : isLoss (theft .book) 10 36 (Live .answer theft (Byte 64)) ≡ true = refl in (
       lost,
@@ -151,20 +153,26 @@ record BeforeE4 (s : Both) (order : List ℕ) : Type 0 where
   pays : payer (s .book) 1 ≡ some 1
   ages : order ≡ 0 ∷ 1 ∷ []
 
--- so the claim says who loses; nothing of the device is computed here
-d4-goes : (s : Both) (order : List ℕ) → BeforeE4 s order
-    → AtNoteOn (Foretold order (s .book) (Live .answer s (Byte 64))) (Live .hears s (Byte 64))
-    → Live .answer s (Byte 64) ≡ Note 1 64 1 Stolen
-unfolding firstOf
-d4-goes s order w f =
-    let g : goes (s .book) order 1 ≡ some 1 = rw (w .pays, w .ages, w .c4, w .d4) in
-    subst (AtNoteOn (Foretold order (s .book) (Live .answer s (Byte 64)))) (w .hears) f (w .unmasked) full
-    ∙ ap (lossAnswer 1 64) g
-  where
-    full : IsFull (s .book) 1 64
-    full zero h = (ap isNote (w .c4), ap (isEnded false 1 64) (w .c4))
-    full (suc zero) h = (ap isNote (w .d4), ap (isEnded false 1 64) (w .d4))
-    full (suc (suc g)) h = absurd (not-below-2 g (subst (λ (p : ℕ). suc (suc g) < p) (w .generators) h))
+-- so the claims say who loses, and who does not; nothing of the device is computed here
+module _ (s : Both) (order : List ℕ) (w : BeforeE4 s order) where
+  d4-goes : AtNoteOn (Foretold order (s .book) (Live .answer s (Byte 64))) (Live .hears s (Byte 64))
+      → Live .answer s (Byte 64) ≡ Note 1 64 1 Stolen
+  unfolding firstOf
+  d4-goes f =
+      let g : goes (s .book) order 1 ≡ some 1 = rw (w .pays, w .ages, w .c4, w .d4) in
+      subst (AtNoteOn (Foretold order (s .book) (Live .answer s (Byte 64)))) (w .hears) f .full (w .unmasked) full
+      ∙ ap (lossAnswer 1 64) g
+    where
+      full : IsFull (s .book) 1 64
+      full zero h = (ap isNote (w .c4), ap (isEnded false 1 64) (w .c4))
+      full (suc zero) h = (ap isNote (w .d4), ap (isEnded false 1 64) (w .d4))
+      full (suc (suc g)) h = absurd (not-below-2 g (subst (λ (p : ℕ). suc (suc g) < p) (w .generators) h))
+
+  c4-stays : AtNoteOn (PedalFirst (s .book) (Live .answer s (Byte 64))) (Live .hears s (Byte 64))
+      → (v : Was) → Live .answer s (Byte 64) ≡ Note 1 64 0 v → ⊥
+  c4-stays f v e =
+      key-unstolen (s .book) 1 64 1 0 1 v (rw (w .c4)) (rw (w .d4)) (subst (λ (a : Answer). PedalFirst (s .book) a 1 64) e
+      (subst (AtNoteOn (PedalFirst (s .book) (Live .answer s (Byte 64)))) (w .hears) f))
 
 before-e4 : BeforeE4 (after Live (begin 2 0) pianist) (byAnswers Live [] (begin 2 0) pianist)
 unfolding upTo total filterBy firstOf padded begun stored oneDataByte completed dataByte opened ended statusByte
@@ -178,7 +186,13 @@ before-e4 =
 pub pedal-note-foretold : Live .answer (after Live (begin 2 0) pianist) (Byte 64) ≡ Note 1 64 1 Stolen
 pedal-note-foretold =
     d4-goes (after Live (begin 2 0) pianist) (byAnswers Live [] (begin 2 0) pianist) before-e4
-    (foretold-at Live [] (begin 2 0) pianist (Byte 64) [] (who-loses 2 0 (pianist ++ (Byte 64 ∷ [])) .foretold))
+    (foretold-at Live (begin 2 0) pianist (Byte 64) [] (who-loses 2 0 (pianist ++ (Byte 64 ∷ []))))
+
+-- and by the other half alone, whatever the answer calls it, C4 is not the one
+pub key-not-stolen : (v : Was) → Live .answer (after Live (begin 2 0) pianist) (Byte 64) ≡ Note 1 64 0 v → ⊥
+key-not-stolen =
+    c4-stays (after Live (begin 2 0) pianist) (byAnswers Live [] (begin 2 0) pianist) before-e4
+    (pedal-first-at Live (begin 2 0) pianist (Byte 64) [] (who-loses 2 0 (pianist ++ (Byte 64 ∷ []))))
 
 -- ---- runs that bring a drum along: nothing is forgotten where they start
 

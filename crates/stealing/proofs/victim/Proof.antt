@@ -1,5 +1,5 @@
--- `stealing::victim` meets its contract: a channel to steal from has its own generator stolen that goes first, and where
--- there is no channel none is.
+-- `stealing::victim` meets its contract: a channel to steal from loses the oldest of what goes first there, and where
+-- there is no channel nothing is lost.
 -- Assumes nothing.
 use mathlib.Core.Path.{sym, _∙_}
 use Rattle.stealing.specs.Stealing.{victim}
@@ -14,8 +14,12 @@ returns c = simp (sym (c .before .before .steal-from .ensures) ∙ c .enum-told 
 returns-2 : tie.Need-returns-2
 unfolding victim
 returns-2 c =
-    let b = c .before .before in
-    simp (sym (b .before .before .steal-from .ensures) ∙ b .d .given .1, c .oldest-to-steal .ensures)
+    let b = c .before .before .before in
+    simp (
+      sym (b .before .before .steal-from .ensures) ∙ b .d .given .1,
+      c .oldest .ensures,
+      c .before .stolen-first .ensures,
+    )
 
 pub victim-spec : {M : Type 1} → statement M
 victim-spec =
@@ -25,5 +29,6 @@ victim-spec =
     (λ c. search needs)
     (λ c. search needs)
     returns
+    (λ c κs. search needs)
     (λ c κs. search needs)
     returns-2)
