@@ -128,7 +128,8 @@ pub theft-when-full : (isLoss (theft .book) 10 36 (Live .answer theft (Byte 64))
 unfolding upTo total filterBy firstOf padded begun stored oneDataByte completed dataByte opened ended statusByte
     split decode tableOf startTable sharesFrom lookup shareOf groupOf excludes agesOf newest assigned silent
     changes stateAfter changed isAmong leaves silenced lowestIdle wanted oldest stolenFirst busyCount overShare
-    stealFrom victim cleared choice noteOn fresh isRhythm playNoteOn played started heard byteTaken taken keepMessage keep after
+    stealFrom victim cleared choice noteOn fresh isRhythm playNoteOn played started heard byteTaken taken keepMessage
+    keep after
 theft-when-full =
     let lost : isLoss (theft .book) 10 36 (Live .answer theft (Byte 64)) ≡ true = refl in (
       lost,
@@ -171,8 +172,9 @@ module _ (s : Both) (order : List ℕ) (w : BeforeE4 s order) where
   c4-stays : AtNoteOn (PedalFirst (s .book) (Live .answer s (Byte 64))) (Live .hears s (Byte 64))
       → (v : Was) → Live .answer s (Byte 64) ≡ Note 1 64 0 v → ⊥
   c4-stays f v e =
-      key-unstolen (s .book) 1 64 1 0 1 v (rw (w .c4)) (rw (w .d4)) (subst (λ (a : Answer). PedalFirst (s .book) a 1 64) e
-      (subst (AtNoteOn (PedalFirst (s .book) (Live .answer s (Byte 64)))) (w .hears) f))
+      let p = subst (AtNoteOn (PedalFirst (s .book) (Live .answer s (Byte 64)))) (w .hears) f in
+      key-unstolen (s .book) 1 64 1 0 1 v (rw (w .c4)) (rw (w .d4))
+      (subst (λ (a : Answer). PedalFirst (s .book) a 1 64) e p)
 
 before-e4 : BeforeE4 (after Live (begin 2 0) pianist) (byAnswers Live [] (begin 2 0) pianist)
 unfolding upTo total filterBy firstOf padded begun stored oneDataByte completed dataByte opened ended statusByte
