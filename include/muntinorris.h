@@ -53,7 +53,7 @@
  * to R6.13.
  *
  * The machine. libmuntinorris.a is for programs on x86-64 Linux, on any such processor. It is some 32 KB of code and
- * constants, has no data, and calls memcpy and memset of the C library and nothing else. A byte takes up to some 3 KB
+ * constants, has no data, and calls memcpy and memset of the C library and nothing else. A byte takes up to some 3.3 KB
  * of stack, a report 1.5 KB; calls that take more say so below, and docs/PERFORMANCE.md has all figures.
  *
  * Channels are 1 to 16, as musicians count them; the wire carries the channel minus 1. What the device does is written

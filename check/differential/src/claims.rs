@@ -7,8 +7,8 @@ use crate::book::{Book, Note, Seen, Slip};
 use crate::lists::Event;
 use crate::record::Record;
 use crate::split::{Message, Splitter};
-use crate::thefts::Theft;
-use paper::{Answer, GeneratorView, State, Was, MOST_GENERATORS};
+use crate::thefts::{self, Theft};
+use paper::{Answer, GeneratorView, Number, State, Was, MOST_GENERATORS};
 
 /// How often the claims had something to say.
 #[derive(Clone, Debug, Default)]
@@ -145,8 +145,11 @@ impl Claims {
         self.theft(&had, note_on.0, answer, seen)
     }
 
-    /// R5.7 to R5.9: a note that left as stolen is the one that had to.
+    /// R5.7 to R5.10: a note that left as stolen is the one that had to, and there was none where 11 is answered.
     fn theft(&self, had: &Book, new_note: u8, answer: Answer, seen: Seen) -> Result<(), String> {
+        if answer.number() == Some(Number::NoneToSteal) {
+            return thefts::none_to_steal(had, new_note);
+        }
         let (Seen::Stolen(stolen), Answer::Note { generator, .. }) = (seen, answer) else {
             return Ok(());
         };

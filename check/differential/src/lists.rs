@@ -57,7 +57,7 @@ const POLYPHONIES: [u8; 10] = [1, 2, 3, 4, 8, 16, 24, 32, 63, 64];
 /// Of every ten lists the third has staged thefts and the fifth a refused start, in turn, so that a short run meets
 /// each.
 const TURN: u64 = 10;
-/// From 3 on a staged theft has all that it needs.
+/// From 2 on a staged theft has all that it needs; 1 is there for the edge.
 const STAGED_POLYPHONIES: [u8; 9] = [4, 3, 64, 8, 2, 63, 16, 1, 24];
 const REFUSED_STARTS: [(u8, u8); 7] = [
     (0, 0),

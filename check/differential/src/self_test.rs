@@ -44,9 +44,9 @@ const SHARED: [(&str, &str); 23] = [
 ];
 
 /// Such mistakes about what a theft takes, each with the claim that finds it.
-const SHARED_THEFTS: [(&str, &str); 20] = [
+const SHARED_THEFTS: [(&str, &str); 22] = [
     ("NewNoteNotCounted", OTHER_CHANNEL),
-    ("HighestPriorityLoses", OTHER_CHANNEL),
+    ("HighestPriorityLoses", NOTE_TO_STEAL),
     ("AnotherLoserSought", OTHER_CHANNEL),
     ("ChannelWithPedalNoteLoses", OTHER_CHANNEL),
     ("OldestSustainedOverShareStolen", OTHER_CHANNEL),
@@ -65,10 +65,13 @@ const SHARED_THEFTS: [(&str, &str); 20] = [
     ("LowestNumberedHeldStolen", OLDER_SPARED),
     ("FirstKeyUpStolen", OLDER_SPARED),
     ("LastKeyUpStolen", OLDER_SPARED),
+    ("OnlyHeldStolen", PEDAL_NOTE_SPARED),
+    ("OnlySustainedStolen", NOTE_TO_STEAL),
 ];
 const OTHER_CHANNEL: &str = "R5.8: ";
 const PEDAL_NOTE_SPARED: &str = "down, is stolen although its channel had a note on the pedal";
 const OLDER_SPARED: &str = "is stolen, and the oldest one is on generator";
+const NOTE_TO_STEAL: &str = "R5.10: number 11 although channel";
 
 /// Such mistakes about what controllers 120 to 127 end: each is found by the notes that the book has.
 const SHARED_MODE: [&str; 27] = [

@@ -1,4 +1,5 @@
-//! What a theft takes (R5.7 to R5.9), told by the book as it was just before the note-on.
+//! What a theft takes, and where nothing is to be stolen (R5.7 to R5.10, R10.11, R10.12), told by the book as it was
+//! just before the note-on.
 
 use crate::book::{Book, Note, Slip};
 use paper::MOST_GENERATORS;
@@ -24,16 +25,9 @@ impl Theft<'_> {
         self.oldest_of_its_kind()
     }
 
-    /// R5.7, R5.8: of the channels over their share, pedal notes and the new note counted, it is of the last listed.
+    /// R5.8: it is of the channel that loses.
     fn of_the_channel_that_loses(&self) -> Result<(), String> {
-        let counts = |note: &Note| note.down || !self.had.has(Slip::PedalNotesNotCounted);
-        let over = |channel: u8| {
-            let notes = self.had.notes_of(channel).filter(counts).count();
-            let count = notes + usize::from(channel == self.new_note);
-            self.had.share(channel).is_some_and(|share| count > share)
-        };
-        let listed = self.had.table().iter().map(|entry| entry.0);
-        match listed.rev().find(|&channel| over(channel)) {
+        match loser(self.had, self.new_note) {
             Some(loser) if loser == self.stolen.channel => Ok(()),
             loser => Err(format!(
                 "R5.8: {} is stolen, and the channel that loses is {:?}",
@@ -87,6 +81,31 @@ impl Theft<'_> {
             kind(down)
         )
     }
+}
+
+/// R5.10: number 11 is answered only where the channel that loses has no note.
+pub fn none_to_steal(had: &Book, new_note: u8) -> Result<(), String> {
+    match loser(had, new_note) {
+        Some(channel) if !had.has(Slip::Thefts) && had.notes_of(channel).next().is_some() => {
+            Err(format!(
+                "R5.10: number 11 although channel {}, which loses, has a note",
+                channel + 1
+            ))
+        }
+        _ => Ok(()),
+    }
+}
+
+/// R5.7, R5.8: of the channels over their share, pedal notes and the new note counted, the last listed.
+fn loser(had: &Book, new_note: u8) -> Option<u8> {
+    let counts = |note: &Note| note.down || !had.has(Slip::PedalNotesNotCounted);
+    let over = |channel: u8| {
+        let notes = had.notes_of(channel).filter(counts).count();
+        let count = notes + usize::from(channel == new_note);
+        had.share(channel).is_some_and(|share| count > share)
+    };
+    let mut listed = had.table().iter().map(|entry| entry.0).rev();
+    listed.find(|&channel| over(channel))
 }
 
 fn kind(down: bool) -> &'static str {
