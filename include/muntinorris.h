@@ -10,8 +10,8 @@
  * held before. Every other call that is lent a record wants one that was made so and that only these calls have written
  * since; on a record with other contents it still returns, and writes no memory but what it is lent to write, but the
  * answer means nothing. (A pitch, gains by their numbers, a song and the message of a whole log need no record; the
- * gains of a channel mean what they say for any eleven bytes.) One record is used by one thread at a time; two records
- * never touch each other.
+ * gains of a channel mean what they say for any thirteen bytes.) One record is used by one thread at a time; two
+ * records never touch each other.
  *
  * A NULL or misaligned pointer, or one to less memory than the struct or the length that is lent, is the caller's error
  * and is not tested for, and so is an overlap of what is lent for reading with what the same call writes; with length 0
@@ -24,7 +24,8 @@
  * two answers, from generator 0 to polyphony - 1:
  *
  *     it was not releasing and is    release it: its key came up, the pedal was lifted, one of the controllers 123 to
- *                                    127 or a mask ended it, or its key was struck again (step 2 of a note-on)
+ *                                    127, a mask or a change of channel 11's kind ended it, or its key was struck
+ *                                    again (step 2 of a note-on)
  *     it was not idle and is         mute it at once: controller 120, a reset, another drum of its group (step 3), or
  *                                    the report that you have just made
  *     it was held and is sustained   nothing: it sounds on
@@ -39,8 +40,8 @@
  * Reports. Call muntinorris_report when a sound has ended, a released one or a drum, but not one that you muted or cut
  * off. Drums above all: a drum's note-off changes nothing, so that its generator stays busy, and counts for its
  * channel, until its end is reported, its key or another of its group is struck, it is stolen, or one of the
- * controllers 120 and 123 to 127, a mask or a reset ends it. A releasing generator that is not reported is taken again
- * only where none is idle.
+ * controllers 120 and 123 to 127, a mask, a reset or, on channel 11, a change of kind ends it. A releasing generator
+ * that is not reported is taken again only where none is idle.
  *
  * A report names a generator and not a note. One that comes late, when the generator has a new note already, ends the
  * NEW note and answers MUNTINORRIS_DONE; number 13 comes only where it is idle. So count the notes that were begun on
@@ -51,6 +52,12 @@
  * Modes. The device has one, MIDI 1.0's mode 3 (omni off, poly). Controllers 124 to 127, which elsewhere choose one,
  * end the notes of their channel as 123 does, whatever their value. 120, 121 and 123 act with value 0 only. Rules R6.10
  * to R6.13.
+ *
+ * Rhythm channels. Channel 10 is one always, channel 11 where a program change made it one: with bank MSB (controller
+ * 0) 120 it becomes a rhythm channel and with 121 one of melody; any other MSB leaves it what it is. It starts, and a GM
+ * System On leaves it, as melody. Where it really changes, that program change releases what channel 11 holds and
+ * sustains. Ask muntinorris_rhythm, or look at instrument.kind, behind the MUNTINORRIS_DONE of a program change. The
+ * banks of all other channels are stored for you, and mean nothing here. Rules R5.12, R6.15, R6.16.
  *
  * The machine. libmuntinorris.a is for programs on x86-64 Linux, on any such processor. It is some 32 KB of code and
  * constants, has no data, and calls memcpy and memset of the C library and nothing else. A byte takes up to some 3.3 KB
@@ -202,6 +209,10 @@ struct muntinorris_mip_answer {
 #define MUNTINORRIS_STATE_SUSTAINED 2 /* its key is up and the pedal down */
 #define MUNTINORRIS_STATE_RELEASING 3
 
+/* The kind of channel 11. */
+#define MUNTINORRIS_MELODY 0
+#define MUNTINORRIS_RHYTHM 1 /* a rhythm channel, as channel 10 is always */
+
 /*
  * Between two bytes: the status byte in force, 0 for none, the number of data bytes since (of a SysEx at most 37), and
  * these bytes.
@@ -224,7 +235,7 @@ struct muntinorris_table {
     struct muntinorris_entry entries[16];
 };
 
-/* The eleven numbers of a channel. */
+/* The thirteen numbers of a channel. The bank is 121 and 0 at a start, 120 and 0 on channel 10. */
 struct muntinorris_channel {
     uint8_t program;
     uint8_t modulation;
@@ -237,6 +248,8 @@ struct muntinorris_channel {
     uint8_t bend_msb;
     uint8_t bend_lsb;
     uint8_t sensitivity;
+    uint8_t bank_msb; /* controller 0 */
+    uint8_t bank_lsb; /* controller 32 */
 };
 
 /*
@@ -261,10 +274,11 @@ struct muntinorris_instrument {
     uint8_t id;        /* own device ID, 0 to 126 */
     struct muntinorris_table table;
     struct muntinorris_channel channels[16];
+    uint8_t kind; /* of channel 11: MUNTINORRIS_MELODY or _RHYTHM */
     struct muntinorris_generators generators;
 };
 
-/* The device record, 507 bytes without padding. Anyone may read it; only the calls below write it. */
+/* The device record, 540 bytes without padding. Anyone may read it; only the calls below write it. */
 struct muntinorris_device {
     struct muntinorris_parser parser;
     struct muntinorris_instrument instrument;
@@ -284,7 +298,7 @@ struct muntinorris_log_line {
 /*
  * The log up to its last 0AH. Where a number has fallen, device, order and most are as they were before the line that
  * it fell at, and nothing behind that line is looked at; with 16 the device is fresh and the rest zeros. (Where
- * uint64_t has alignment 8: 5 bytes of padding before lines and 7 behind number, 560 bytes.)
+ * uint64_t has alignment 8: 4 bytes of padding before lines and 7 behind number, 592 bytes.)
  */
 struct muntinorris_logged {
     struct muntinorris_device device; /* polyphony 64, own ID 0, after the lines so far */
@@ -298,7 +312,7 @@ struct muntinorris_logged {
 };
 
 /*
- * A log as far as it was given, 568 bytes where uint64_t has alignment 8. Anyone may read it; only the calls below
+ * A log as far as it was given, 600 bytes where uint64_t has alignment 8. Anyone may read it; only the calls below
  * write it. What stands in the padding is not said: compare two logs field by field. A byte of the log goes into line,
  * which each 0AH empties; so it does behind a number too, and changes nothing else there.
  */
@@ -324,12 +338,18 @@ struct muntinorris_answer muntinorris_byte(struct muntinorris_device *d, uint8_t
  */
 struct muntinorris_answer muntinorris_report(struct muntinorris_device *d, uint8_t generator);
 
-/* Queries: they change nothing (R7.3 to R7.6). Number 12 where there is no such generator. */
+/* Queries: they change nothing (R7.3 to R7.7). Number 12 where there is no such generator. */
 struct muntinorris_generator_answer muntinorris_generator(const struct muntinorris_device *d, uint8_t generator);
 
 /* Number 14 where the channel is not 1 to 16. */
 struct muntinorris_mask_answer muntinorris_mask(const struct muntinorris_device *d, uint8_t channel);
 struct muntinorris_share_answer muntinorris_share(const struct muntinorris_device *d, uint8_t channel);
+
+/*
+ * Whether it is a rhythm channel: 1 for channel 10, for channel 11 its kind, 0 for any other and for what is no
+ * channel. It refuses nothing. R7.7.
+ */
+uint8_t muntinorris_rhythm(const struct muntinorris_device *d, uint8_t channel);
 
 /*
  * The service page: the state of the device as text, in the first 323 bytes of the buffer; its other bytes stay, and no

@@ -139,6 +139,8 @@ static void channels(void)
         struct muntinorris_channel *w = &want.instrument.channels[c];
 
         feed(0xB0 + c);
+        controller(0, 28 + c, &w->bank_msb, "bank_msb");
+        controller(32, 29 + c, &w->bank_lsb, "bank_lsb");
         controller(1, 30 + c, &w->modulation, "modulation");
         controller(7, 31 + c, &w->volume, "volume");
         controller(10, 32 + c, &w->pan, "pan");
@@ -168,6 +170,32 @@ static void channels(void)
     want.instrument.generators.state[0] = MUNTINORRIS_STATE_SUSTAINED;
     muntinorris_byte(device, 60);
     byte(0, "hold is read");
+}
+
+static void kind(void)
+{
+    start(64, 5);
+    check(device->instrument.kind == MUNTINORRIS_MELODY && device->instrument.channels[9].bank_msb == 120 &&
+              device->instrument.channels[10].bank_msb == 121,
+          "the kind and the banks of a start");
+    feed(0xBA);
+    feed(0);
+    feed(120);
+    feed(0xCA);
+    want.parser.count = 0;
+    want.instrument.kind = MUNTINORRIS_RHYTHM;
+    want.instrument.channels[10].program = 3;
+    byte(3, "kind");
+    check(muntinorris_rhythm(device, 11) == 1 && muntinorris_rhythm(device, 10) == 1 &&
+              muntinorris_rhythm(device, 12) == 0 && muntinorris_rhythm(device, 0) == 0 &&
+              muntinorris_rhythm(device, 255) == 0,
+          "the rhythm channels");
+    /* reading */
+    device->instrument.kind = MUNTINORRIS_MELODY;
+    check(muntinorris_rhythm(device, 11) == 0 && muntinorris_rhythm(device, 10) == 1, "kind is read");
+    device->instrument.channels[10].bank_msb = 77;
+    feed(4);
+    check(device->instrument.kind == MUNTINORRIS_MELODY, "bank_msb is read");
 }
 
 static void table(void)
@@ -637,12 +665,13 @@ static void layout(void)
     STRUCT(device), FIELD(device, parser), FIELD(device, instrument);
     STRUCT(parser), FIELD(parser, status), FIELD(parser, count), FIELD(parser, bytes);
     STRUCT(instrument), FIELD(instrument, polyphony), FIELD(instrument, id), FIELD(instrument, table);
-    FIELD(instrument, channels), FIELD(instrument, generators);
+    FIELD(instrument, channels), FIELD(instrument, kind), FIELD(instrument, generators);
     STRUCT(table), FIELD(table, count), FIELD(table, entries);
     STRUCT(entry), FIELD(entry, channel), FIELD(entry, value);
     STRUCT(channel), FIELD(channel, program), FIELD(channel, modulation), FIELD(channel, volume), FIELD(channel, pan);
     FIELD(channel, expression), FIELD(channel, hold), FIELD(channel, rpn_msb), FIELD(channel, rpn_lsb);
-    FIELD(channel, bend_msb), FIELD(channel, bend_lsb), FIELD(channel, sensitivity);
+    FIELD(channel, bend_msb), FIELD(channel, bend_lsb), FIELD(channel, sensitivity), FIELD(channel, bank_msb);
+    FIELD(channel, bank_lsb);
     STRUCT(generators), FIELD(generators, state), FIELD(generators, channel), FIELD(generators, key);
     FIELD(generators, ages);
     STRUCT(ages), FIELD(ages, count), FIELD(ages, generator);
@@ -661,7 +690,7 @@ static void layout(void)
     unlisted -= 1; /* padding */
     STRUCT(log), FIELD(log, song), FIELD(log, line);
     STRUCT(logged), FIELD(logged, device), FIELD(logged, order), FIELD(logged, most), FIELD(logged, lines);
-    FIELD(logged, number), unlisted -= 12; /* padding */
+    FIELD(logged, number), unlisted -= 11; /* padding */
     STRUCT(log_line), FIELD(log_line, count), FIELD(log_line, bytes);
     check(unlisted == 0, "every field of the last struct is listed");
 }
@@ -676,6 +705,7 @@ int main(int argc, char **argv)
     fill(0xA5);
     parser();
     channels();
+    kind();
     table();
     generators();
     ages_and_id();

@@ -45,10 +45,13 @@
 //! ```
 //!
 //! Drums stay busy until [`Device::report`] says that they have ended, they or their group are struck again, they are
-//! stolen, or one of the controllers 120 and 123 to 127, a mask or a reset ends them: their note-offs change nothing. A
-//! report names a generator and not a note: see there for one that comes late.
+//! stolen, or one of the controllers 120 and 123 to 127, a mask, a reset or, on channel 11, a change of kind ends them:
+//! their note-offs change nothing. A report names a generator and not a note: see there for one that comes late.
 //!
 //! Controllers 124 to 127 end the notes of their channel as 123 does, whatever their value; the device has one mode.
+//!
+//! Channel 10 is a rhythm channel. Channel 11 becomes one by a program change with bank MSB (controller 0) 120, and one
+//! of melody with 121, as which it starts; a change of its kind releases what it plays. [`Device::is_rhythm`] tells.
 use std::mem::MaybeUninit;
 
 pub mod record;
@@ -146,6 +149,7 @@ extern "C" {
     fn muntinorris_generator(d: *const Device, generator: u8) -> record::GeneratorNumbers;
     fn muntinorris_mask(d: *const Device, channel: u8) -> record::MaskNumbers;
     fn muntinorris_share(d: *const Device, channel: u8) -> record::ShareNumbers;
+    fn muntinorris_rhythm(d: *const Device, channel: u8) -> u8;
     fn muntinorris_page(d: *const Device, page: *mut u8, length: usize) -> u8;
     fn muntinorris_pitch(key: u8, sensitivity: u8, bend: u16) -> record::PitchNumbers;
     fn muntinorris_gains(expression: u8, volume: u8, pan: u8) -> record::GainNumbers;
@@ -259,6 +263,22 @@ impl Device {
     pub fn share(&self, channel: u8) -> Result<u8, Refused> {
         let n = unsafe { muntinorris_share(self, channel) };
         answered(n.number, n.share)
+    }
+
+    /// Whether it is a rhythm channel: channel 10, and channel 11 where its kind is rhythm. What is no channel is none.
+    ///
+    /// ```
+    /// use muntinorris::Device;
+    ///
+    /// let (mut device, _) = Device::start(4, 0);
+    /// assert!(device.is_rhythm(10) && !device.is_rhythm(11));
+    /// for byte in [0xBA, 0, 120, 0xCA, 0] {
+    ///     device.byte(byte);
+    /// }
+    /// assert!(device.is_rhythm(11));
+    /// ```
+    pub fn is_rhythm(&self, channel: u8) -> bool {
+        unsafe { muntinorris_rhythm(self, channel) != 0 }
     }
 
     /// The service page, the state of the device as text, in the first [`PAGE_BYTES`] of a buffer; its other bytes

@@ -26,7 +26,7 @@ pub struct Table {
     pub entries: [Entry; 16],
 }
 
-/// The eleven numbers of a channel.
+/// The thirteen numbers of a channel.
 #[repr(C)]
 #[derive(Clone, Copy, Debug, PartialEq, Eq)]
 pub struct Channel {
@@ -41,6 +41,8 @@ pub struct Channel {
     pub bend_msb: u8,
     pub bend_lsb: u8,
     pub sensitivity: u8,
+    pub bank_msb: u8,
+    pub bank_lsb: u8,
 }
 
 /// The order of assignment: the first `count` numbers are the sounding generators, the oldest first.
@@ -69,6 +71,8 @@ pub struct Instrument {
     pub id: u8,
     pub table: Table,
     pub channels: [Channel; 16],
+    /// Of channel 11: 0 melody, 1 rhythm.
+    pub kind: u8,
     pub generators: Generators,
 }
 
@@ -214,13 +218,13 @@ pub fn layout() -> String {
     lay!("device", Device { parser: Parser, instrument: Instrument });
     lay!("parser", Parser { status: u8, count: u8, bytes: [u8; 37] });
     lay!("instrument", Instrument {
-        polyphony: u8, id: u8, table: Table, channels: [Channel; 16], generators: Generators
+        polyphony: u8, id: u8, table: Table, channels: [Channel; 16], kind: u8, generators: Generators
     });
     lay!("table", Table { count: u8, entries: [Entry; 16] });
     lay!("entry", Entry { channel: u8, value: u8 });
     lay!("channel", Channel {
         program: u8, modulation: u8, volume: u8, pan: u8, expression: u8, hold: u8, rpn_msb: u8, rpn_lsb: u8,
-        bend_msb: u8, bend_lsb: u8, sensitivity: u8
+        bend_msb: u8, bend_lsb: u8, sensitivity: u8, bank_msb: u8, bank_lsb: u8
     });
     lay!("generators", Generators { state: [u8; 64], channel: [u8; 64], key: [u8; 64], ages: Ages });
     lay!("ages", Ages { count: u8, generator: [u8; 64] });

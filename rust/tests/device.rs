@@ -134,12 +134,33 @@ fn a_mode_message_ends_notes() {
     }
 }
 
+/// Channel 11 is made a rhythm channel and one of melody again (R6.15): its notes end at each real change, its drums by
+/// their reports, and its hi-hats exclude each other and not those of channel 10.
+#[test]
+fn drums_on_channel_11() {
+    let (mut device, _) = Device::start(4, 0);
+    let rhythm = |device: &Device| (0..=255).filter(|c| device.is_rhythm(*c)).collect::<Vec<u8>>();
+    let states = |device: &Device| (0..4).map(|g| device.generator(g).unwrap().state).collect::<Vec<_>>();
+    assert_eq!(rhythm(&device), [10]);
+    play(&mut device, &[0x9A, 60, 64, 0xBA, 0, 120]);
+    assert_eq!((rhythm(&device), states(&device)[0]), (vec![10], State::Held));
+    play(&mut device, &[0xCA, 25]);
+    assert_eq!((rhythm(&device), states(&device)[0]), (vec![10, 11], State::Releasing));
+    assert_eq!(play(&mut device, &[0x99, 46, 64, 0x9A, 46, 64, 46, 0]).len(), 3);
+    assert_eq!(play(&mut device, &[42, 64]), [note(11, 42, 2, Was::Idle)]);
+    assert_eq!(states(&device), [State::Releasing, State::Held, State::Held, State::Idle]);
+    play(&mut device, &[0xBA, 0, 5, 0xCA, 25]);
+    assert_eq!((rhythm(&device), states(&device)[2]), (vec![10, 11], State::Held));
+    play(&mut device, &[0xBA, 0, 121, 0xCA, 25]);
+    assert_eq!((rhythm(&device), states(&device)[1], states(&device)[2]), (vec![10], State::Held, State::Releasing));
+}
+
 /// The record that a caller may read, after calls that put a different number in each place that is looked at.
 #[test]
 fn the_record_is_readable() {
     let (mut device, _) = Device::start(3, 5);
     let bytes = [
-        0xC1, 50, 0xB1, 1, 31, 7, 32, 10, 33, 11, 34, 64, 35, 101, 0, 100, 0, 6, 7, 0xE1, 9, 70,
+        0xC1, 50, 0xB1, 1, 31, 7, 32, 10, 33, 11, 34, 64, 35, 101, 0, 100, 0, 6, 7, 0, 36, 32, 37, 0xE1, 9, 70,
         0x91, 60, 64, 61, 64, 0x92, 62,
     ];
     play(&mut device, &bytes);
@@ -156,6 +177,10 @@ fn the_record_is_readable() {
         (channel.rpn_msb, channel.rpn_lsb, channel.bend_msb, channel.bend_lsb, channel.sensitivity),
         (0, 0, 70, 9, 7)
     );
+    assert_eq!((channel.bank_msb, channel.bank_lsb, instrument.kind), (36, 37, 0));
+    play(&mut device, &[0xBA, 0, 120, 0xCA, 8]);
+    let instrument = device.instrument();
+    assert_eq!((instrument.channels[10].bank_msb, instrument.channels[10].program, instrument.kind), (120, 8, 1));
     let generators = &instrument.generators;
     assert_eq!((generators.state[1], generators.channel[1], generators.key[1]), (1, 2, 61));
     assert_eq!((generators.ages.count, generators.ages.generator[1]), (2, 1));

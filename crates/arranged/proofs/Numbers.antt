@@ -11,7 +11,8 @@ use native.Mathlib.Omega.{arith}
 use borrow.Author.Tests.{lt-leb}
 use lib.Dec.{eqb, leb, ltb}
 use lib.ListN.{length, getD}
-use Rattle.loops.specs.Cases.{if_then_else_}
+use Rattle.loops.specs.Cases.{if_then_else_, differ}
+use Rattle.loops.proofs.Cases.{by-both}
 use Rattle.loops.proofs.Tests.{impossible}
 use Rattle.splitter.specs.declared.Parser.{Parser}
 use Rattle.splitter.specs.declared.Completed.{Completed}
@@ -33,7 +34,7 @@ use Rattle.mip.specs.Mip.{pairs, faulty, judgedBy, judged}
 use Rattle.mip.specs.Mip as judging
 use Rattle.generators.specs.declared.Generators.{Generators}
 use Rattle.generators.specs.Generators.{at, isIdle}
-use Rattle.releases.specs.declared.Change.the-variants.{NoteOff}
+use Rattle.releases.specs.declared.Change.the-variants.{ReleaseChannel, NoteOff}
 use Rattle.releases.specs.Releases.{changed}
 use Rattle.candidates.specs.declared.Found.{Found}
 use Rattle.candidates.specs.declared.Found.the-variants as found
@@ -49,7 +50,7 @@ use Rattle.silence.specs.declared.Leaving.the-variants.{One}
 use Rattle.silence.specs.Silence.{silenced}
 use Rattle.instrument.specs.declared.Instrument.{Instrument}
 use Rattle.instrument.specs.Instrument as instrument
-use Rattle.other_messages.specs.OtherMessages.{playNoteOff, playControl}
+use Rattle.other_messages.specs.OtherMessages.{playNoteOff, playControl, kindSet, playProgram}
 use Rattle.playing.specs.declared.Answer.the-variants as answer
 use Rattle.playing.specs.Playing.{replied, replyOf, playNoteOn, played, numberOf}
 use Rattle.exclusive.specs.Exclusive.{newTable, judgedReply, mipTaken, kindReply, exclusive}
@@ -66,8 +67,17 @@ use Rattle.arranged.specs.Laws.{NoOtherNumber}
 
 -- ---- P stays
 
+kind-set-p : (i : Instrument) (r : Bool) → kindSet i r .polyphony ≡ i .polyphony
+unfolding kindSet
+kind-set-p i r = go (differ r (instrument.isRhythm i 11))
+  where
+    go : (x : Bool) → (if x then instrument.withGenerators (instrument.withKind i r)
+        (changed (ReleaseChannel 11) (i .generators)) else i) .polyphony ≡ i .polyphony
+    go true = refl
+    go false = refl
+
 played-p : (i : Instrument) (m : Message) → played i m .instrument .polyphony ≡ i .polyphony
-unfolding played playNoteOn playNoteOff playControl instrument.withChannel
+unfolding played playNoteOn playNoteOff playControl playProgram instrument.withChannel
 played-p i (message.NoteOn c k) = refl
 played-p i (message.NoteOff c k) =
     go (instrument.isRhythm i c) (changed (NoteOff (instrument.pedalDown i c) c k) (i .generators))
@@ -76,7 +86,10 @@ played-p i (message.NoteOff c k) =
     go true s = refl
     go false s = refl
 played-p i (message.Control c n v) = refl
-played-p i (message.Program c n) = refl
+played-p i (message.Program c n) = by-both P (eqb c 11) _ _ (kind-set-p _ _) refl
+  where
+    P : Instrument → Type 0
+    P j = j .polyphony ≡ i .polyphony
 played-p i (message.Bend c msb lsb) = refl
 played-p i message.Other = refl
 

@@ -1,7 +1,7 @@
-// What a channel remembers: its eleven numbers (R1.8, R1.9), program change and pitch bend (R6.5); controllers are in
-// crate controllers. By value, for every value. Assumes nothing.
+// What a channel remembers: its thirteen numbers (R1.8, R1.9), program change and pitch bend (R6.5), and which bank makes
+// a rhythm channel (R6.15); controllers are in crate controllers. By value, for every value. Assumes nothing.
 ghost use mathlib.Core.Path.{_≡_};
-ghost use Rattle.channels.specs.Channel.{fresh, withProgram, withBend};
+ghost use Rattle.channels.specs.Channel.{fresh, freshRhythm, withProgram, withBend, rhythmBy};
 
 #[repr(C)]
 pub struct Channel {
@@ -16,6 +16,8 @@ pub struct Channel {
     pub bend_msb: u8,
     pub bend_lsb: u8,
     pub sensitivity: u8,
+    pub bank_msb: u8,
+    pub bank_lsb: u8,
 }
 
 impl Channel {
@@ -41,6 +43,12 @@ impl Channel {
     pub const SENSITIVITY: u8 = 2;
     // The largest bend sensitivity, in semitones.
     pub const SENSITIVITY_LIMIT: u8 = 24;
+    // The MSB of the banks of General MIDI 2 for melody and for rhythm, and the LSB of a fresh channel.
+    pub const MELODY_BANK: u8 = 121;
+
+    pub const RHYTHM_BANK: u8 = 120;
+
+    pub const BANK_LSB: u8 = 0;
 
     pub fn fresh() -> Self
         ensures { λ r. ⌜ r ≡ fresh ⌝ }
@@ -57,7 +65,18 @@ impl Channel {
             bend_msb: Channel::BEND_MSB,
             bend_lsb: Channel::BEND_LSB,
             sensitivity: Channel::SENSITIVITY,
+            bank_msb: Channel::MELODY_BANK,
+            bank_lsb: Channel::BANK_LSB,
         }
+    }
+
+    // Channel 10's: its bank is that of the drums.
+    pub fn fresh_rhythm() -> Self
+        ensures { λ r. ⌜ r ≡ freshRhythm ⌝ }
+    {
+        let mut c = Channel::fresh();
+        c.bank_msb = Channel::RHYTHM_BANK;
+        c
     }
 
     pub fn program(self, program: u8) -> Self
@@ -75,5 +94,19 @@ impl Channel {
         c.bend_msb = msb;
         c.bend_lsb = lsb;
         c
+    }
+
+    // Whether a program change makes a rhythm channel of one that was one or not: by its bank's MSB; the LSB and the
+    // program have no part in it.
+    pub fn rhythm_by(self, was: bool) -> bool
+        ensures { λ r. ⌜ r ≡ rhythmBy (self .«bank_msb») was ⌝ }
+    {
+        if self.bank_msb == Channel::RHYTHM_BANK {
+            return true;
+        }
+        if self.bank_msb == Channel::MELODY_BANK {
+            return false;
+        }
+        was
     }
 }

@@ -25,6 +25,8 @@ stored c n v =
       «bend_msb» = c .«bend_msb»;
       «bend_lsb» = c .«bend_lsb»;
       sensitivity = if eqb n 6 then dataEntry c v else c .sensitivity;
+      «bank_msb» = if eqb n 0 then v else c .«bank_msb»;
+      «bank_lsb» = if eqb n 32 then v else c .«bank_lsb»;
     }
 
 -- R6.11: what 121 leaves
@@ -42,6 +44,8 @@ reset c =
       «bend_msb» = 64;
       «bend_lsb» = 0;
       sensitivity = c .sensitivity;
+      «bank_msb» = c .«bank_msb»;
+      «bank_lsb» = c .«bank_lsb»;
     }
 
 -- the numbers after any controller; R6.13: 121 with another value than 0 changes nothing

@@ -7,7 +7,7 @@ ghost use Rattle.controllers.specs.Controllers.{liftsPedal, silencesAll,
 use channels::Channel;
 
 // The sensitivity after Data Entry MSB: bend sensitivity is the only registered parameter here. Its LSB, controller 38,
-// changes nothing, nor does controller 32.
+// changes nothing; controller 32 is the LSB of the bank.
 fn data_entry(channel: Channel, v: u8) -> u8
     ensures { λ r. ⌜ r ≡ dataEntry channel v ⌝ }
 {
@@ -23,11 +23,13 @@ fn store(channel: Channel, n: u8, v: u8) -> Channel
 {
     let mut c = channel;
     match n {
+        0 => c.bank_msb = v,
         1 => c.modulation = v,
         6 => c.sensitivity = data_entry(channel, v),
         7 => c.volume = v,
         10 => c.pan = v,
         11 => c.expression = v,
+        32 => c.bank_lsb = v,
         64 => c.hold = v,
         98 | 99 => {
             c.rpn_msb = Channel::RPN;
@@ -40,7 +42,7 @@ fn store(channel: Channel, n: u8, v: u8) -> Channel
     c
 }
 
-// Reset All Controllers keeps program, volume, pan and sensitivity.
+// Reset All Controllers keeps program, bank, volume, pan and sensitivity.
 fn reset(channel: Channel) -> Channel
     ensures { λ r. ⌜ r ≡ reset channel ⌝ }
 {

@@ -7,9 +7,9 @@ use mathlib.Core.Bool.{Bool, true, false}
 use mathlib.Core.List.{List, [], _∷_}
 use Prim.Native.Nat.{ℕ, zero, suc, _+_, _≤_}
 use native.Mathlib.Omega.{arith}
-use lib.Dec.{leb}
+use lib.Dec.{eqb, leb}
 use lib.ListN.{length}
-use Rattle.loops.specs.Cases.{if_then_else_, bit}
+use Rattle.loops.specs.Cases.{if_then_else_, differ, bit}
 use Rattle.loops.specs.Passes.{filterBy}
 use Rattle.loops.proofs.Cases.{by-both}
 use Rattle.loops.proofs.Totals.{total-bits}
@@ -23,15 +23,16 @@ use Rattle.generators.specs.Generators.{at, isIdle}
 use Rattle.silence.specs.declared.Leaving.the-variants as leaving
 use Rattle.silence.specs.Silence.{silenced}
 use Rattle.instrument.specs.Instrument.{fresh, withGenerators}
+use Rattle.channels.specs.Channel.{rhythmBy}
 use Rattle.controllers.specs.Controllers.{liftsPedal, silencesAll, endsAll}
 use Rattle.playing.specs.Playing.{replied, played}
 use Rattle.reports.specs.Reports.{reported}
 use Rattle.device.specs.Device.{freshDevice, byteTaken}
 use Rattle.events.specs.declared.Event.the-variants.{Byte}
 use Rattle.events.specs.Events.{taken}
-use Rattle.note_book.specs.Book.{Slot, empty, note, isNote, Book, withHolds, isDone, isRhythm}
-use Rattle.note_book.specs.Book.{isEnded, allFreed, put, remaining, keepNoteOn, notesAfter}
-use Rattle.note_book.specs.Book.{keepControl, keepMessage, keepReport, Heard, message, keep}
+use Rattle.note_book.specs.Book.{Slot, empty, note, isNote, Book, withHolds, withBank, withRhythm, isDone, isRhythm}
+use Rattle.note_book.specs.Book.{isOf, isEnded, allFreed, put, remaining, keepNoteOn, notesAfter}
+use Rattle.note_book.specs.Book.{keepControl, kindKept, keepProgram, keepMessage, keepReport, Heard, message, keep}
 use Rattle.note_book.specs.Claim.{Both, Live}
 use Rattle.note_book.proofs.Matches.{Matches, Outcome, masked, served, robbed, turned, note-law}
 use Rattle.note_book.proofs.Run.{IsNoNote, Right, right-nothing, right-message, right-table}
@@ -67,12 +68,27 @@ calm-freed f p b = record { same = refl; fewer = in-freed (b .polyphony) f p (b 
 calm-holds : (b b′ : Book) (h : ℕ → ℕ) → Calm b b′ → Calm b (withHolds b′ h)
 calm-holds b b′ h t = record { same = t .same; fewer = t .fewer }
 
+calm-bank : (b b′ : Book) (v : ℕ) → Calm b b′ → Calm b (withBank b′ v)
+calm-bank b b′ v t = record { same = t .same; fewer = t .fewer }
+
+calm-rhythm : (b b′ : Book) (r : Bool) → Calm b b′ → Calm b (withRhythm b′ r)
+calm-rhythm b b′ r t = record { same = t .same; fewer = t .fewer }
+
 calm-control : (b : Book) (c n v : ℕ) → Calm b (keepControl b c n v)
 calm-control b c n v =
-    calm-holds b (notesAfter b c n v) _
+    calm-bank b _ _
+    (calm-holds b (notesAfter b c n v) _
     (by-both (Calm b) (liftsPedal n v) _ _ (calm-freed _ _ b)
     (by-both (Calm b) (silencesAll n v) _ _ (calm-freed _ _ b)
-    (by-both (Calm b) (endsAll n v) _ _ (calm-freed _ _ b) (calm-same b))))
+    (by-both (Calm b) (endsAll n v) _ _ (calm-freed _ _ b) (calm-same b)))))
+
+calm-kind : (b : Book) (r : Bool) → Calm b (kindKept b r)
+calm-kind b r =
+    by-both (Calm b) (differ r (b .rhythm)) _ _ (calm-rhythm b _ r (calm-freed (isOf 11) false b)) (calm-same b)
+
+calm-program : (b : Book) (c : ℕ) → Calm b (keepProgram b c)
+calm-program b c =
+    by-both (Calm b) (eqb c 11) _ _ (calm-kind b (rhythmBy (b .bank) (b .rhythm))) (calm-same b)
 
 calm-report : (b : Book) (g : ℕ) (a : Answer) → Calm b (keepReport b g a)
 calm-report b g a =
@@ -131,7 +147,7 @@ step i j b h a (right-message (NoteOn c k) s) m = step-on b c k _ (note-law i b 
 step i j b h a (right-message (NoteOff c k) s) m =
     of-calm b _ _ answer.Done (by-both (Calm b) (isRhythm b c) _ _ (calm-same b) (calm-freed _ _ b)) refl
 step i j b h a (right-message (Control c n v) s) m = of-calm b _ _ answer.Done (calm-control b c n v) refl
-step i j b h a (right-message (Program c n) s) m = of-calm b b _ answer.Done (calm-same b) refl
+step i j b h a (right-message (Program c n) s) m = of-calm b _ _ answer.Done (calm-program b c) refl
 step i j b h a (right-message (Bend c x y) s) m = of-calm b b _ answer.Done (calm-same b) refl
 step i j b h a (right-message Other s) m = of-calm b b _ answer.Done (calm-same b) refl
 step i j b h a (right-table t w) m =

@@ -1,8 +1,8 @@
 // The record of the sound module without its parser: what acts on a whole message works on it (R1.10, R1.11). By
 // value, for every value. Assumes nothing.
 ghost use mathlib.Core.Path.{_≡_};
-ghost use Rattle.instrument.specs.Instrument.{fresh, replaced, channelOf, withChannel};
-ghost use Rattle.instrument.specs.Instrument.{withGenerators, pedalDown, isRhythm};
+ghost use Rattle.instrument.specs.Instrument.{freshChannels, fresh, replaced, channelOf, withChannel};
+ghost use Rattle.instrument.specs.Instrument.{withKind, withGenerators, pedalDown, isRhythm};
 use channels::Channel;
 use generators::Generators;
 use table::Table;
@@ -15,6 +15,8 @@ pub struct Instrument {
     pub table: Table,
     // By what the wire carries, the channel minus 1.
     pub channels: [Channel; 16],
+    // Of channel 11: RHYTHM or MELODY.
+    pub kind: u8,
     pub generators: Generators,
 }
 
@@ -31,18 +33,34 @@ fn replace(channels: [Channel; 16], at: u8, c: Channel) -> [Channel; 16]
     out
 }
 
+// Channel 10 has the bank of the drums.
+fn fresh_channels() -> [Channel; 16]
+    ensures { λ r. ⌜ r ≡ freshChannels ⌝ }
+{
+    let channel = Channel::fresh();
+    let mut out = [channel; 16];
+    out[9] = Channel::fresh_rhythm();
+    out
+}
+
 impl Instrument {
+    // The kinds of channel 11.
+    pub const MELODY: u8 = 0;
+
+    pub const RHYTHM: u8 = 1;
+
     pub fn fresh(polyphony: u8, id: u8) -> Self
         ensures { λ r. ⌜ r ≡ fresh polyphony id ⌝ }
     {
         let table = Table::start(polyphony);
-        let channel = Channel::fresh();
+        let channels = fresh_channels();
         let generators = Generators::silent();
         Instrument {
             polyphony: polyphony,
             id: id,
             table: table,
-            channels: [channel; 16],
+            channels: channels,
+            kind: Instrument::MELODY,
             generators: generators,
         }
     }
@@ -70,6 +88,15 @@ impl Instrument {
         next
     }
 
+    // With channel 11 made a rhythm channel or one of melody.
+    pub fn with_kind(self, rhythm: bool) -> Self
+        ensures { λ r. ⌜ r ≡ withKind self rhythm ⌝ }
+    {
+        let mut next = self;
+        next.kind = loops::one(rhythm);
+        next
+    }
+
     pub fn with_generators(self, generators: Generators) -> Self
         ensures { λ r. ⌜ r ≡ withGenerators self generators ⌝ }
     {
@@ -90,6 +117,6 @@ impl Instrument {
     pub fn is_rhythm(self, channel: u8) -> bool
         ensures { λ r. ⌜ r ≡ isRhythm self channel ⌝ }
     {
-        channel == 10
+        (channel == 10) | ((channel == 11) & (self.kind == Instrument::RHYTHM))
     }
 }

@@ -1,5 +1,5 @@
--- A choice by a test, a test as a number, and a number that may be missing.
-use mathlib.Core.Bool.{Bool, true, false}
+-- A choice by a test, two tests that differ, a test as a number, and a number that may be missing.
+use mathlib.Core.Bool.{Bool, true, false, not, _&&_, _||_}
 use mathlib.Core.Option.{Option, some, none}
 use Prim.Native.Nat.{ℕ}
 use lib.Dec.{ltb}
@@ -8,6 +8,9 @@ infix 10 if_then_else_
 abbrev pub if_then_else_ : {A : Type 0} → Bool → A → A → A
 if_then_else_ true a b = a
 if_then_else_ false a b = b
+
+abbrev pub differ : Bool → Bool → Bool
+differ a b = a && not b || not a && b
 
 -- 1 where the test holds, 0 where not: what counting adds up
 abbrev pub bit : Bool → ℕ

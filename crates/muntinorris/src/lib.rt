@@ -6,13 +6,13 @@ ghost use Rattle.loops.specs.Cases.{orZero};
 ghost use Rattle.device.specs.Device.{started};
 ghost use Rattle.events.specs.Events.{taken};
 ghost use Rattle.events.specs.declared.Event.the-variants.{Byte, Report};
-ghost use Rattle.queries.specs.Queries.{generatorQuery, maskQuery, shareQuery};
+ghost use Rattle.queries.specs.Queries.{generatorQuery, maskQuery, shareQuery, rhythmQuery};
 ghost use Rattle.service.specs.Page.{pageNumber, pageAfter, pageAnswer};
 ghost use Rattle.pitch.specs.Pitch.{pitchOf};
 ghost use Rattle.song.specs.Song.{songAnswer, songWritten};
 ghost use Rattle.arranging.specs.Arranging.{message};
 ghost use Rattle.arranging.specs.Run.{heard, begun, finished};
-ghost use Rattle.numbers.specs.Numbers.{numbersOf, generatorNumbers, maskNumbers, shareNumbers};
+ghost use Rattle.numbers.specs.Numbers.{numbersOf, generatorNumbers, maskNumbers, shareNumbers, rhythmNumber};
 ghost use Rattle.numbers.specs.Numbers.{pitchNumbers, GainsTold, GainsToldOf, songNumbers};
 use arranging::Run;
 use arranging::Written;
@@ -76,6 +76,14 @@ pub extern "C" fn muntinorris_share(d: &Device, channel: u8) -> ShareNumbers
     ensures { λ r. ⌜ r ≡ shareNumbers (shareQuery (now (d .entry)) channel) ⌝ }
 {
     numbers::share_numbers(*d, channel)
+}
+
+// Whether it is a rhythm channel, 1 or 0.
+#[no_mangle]
+pub extern "C" fn muntinorris_rhythm(d: &Device, channel: u8) -> u8
+    ensures { λ r. ⌜ r ≡ rhythmNumber (rhythmQuery (now (d .entry)) channel) ⌝ }
+{
+    numbers::rhythm_number(*d, channel)
 }
 
 // The service page, in the first 323 bytes of the lent buffer: 0, or 18 for a buffer that has fewer.

@@ -6,8 +6,9 @@ use mathlib.Core.Path.{refl, sym, subst}
 use mathlib.Core.Bool.{Bool, true, false}
 use mathlib.Core.List.{List, [], _∷_}
 use Prim.Native.Nat.{ℕ}
-use lib.Dec.{leb}
-use Rattle.loops.specs.Cases.{if_then_else_}
+use lib.Dec.{eqb, leb}
+use Rattle.channels.specs.Channel.{withProgram, rhythmBy}
+use Rattle.loops.specs.Cases.{if_then_else_, differ}
 use Rattle.loops.proofs.Cases.{by-both}
 use Rattle.message.specs.declared.Message.the-variants.{NoteOn, NoteOff, Control, Program, Bend, Other}
 use Rattle.table.specs.declared.Table.{Table}
@@ -20,14 +21,14 @@ use Rattle.silence.specs.Silence.{silenced}
 use Rattle.age_law.proofs.Assigned.{Ordered, Follows, follows-restated}
 use Rattle.age_law.proofs.Assigned.{follows-changed, follows-silenced, follows-silent}
 use Rattle.instrument.specs.declared.Instrument.{Instrument}
-use Rattle.instrument.specs.Instrument.{fresh, withChannel, withGenerators}
+use Rattle.instrument.specs.Instrument.{fresh, withChannel, withKind, withGenerators}
 use Rattle.instrument.specs.Instrument as of-instrument
 use Rattle.masking.specs.Masking.{masked}
 use Rattle.playing.specs.declared.Answer.{Answer}
 use Rattle.playing.specs.declared.Answer.the-variants.{Done, Number}
 use Rattle.playing.specs.Playing.{replied, played}
 use Rattle.controllers.specs.Controllers.{liftsPedal, silencesAll, endsAll}
-use Rattle.other_messages.specs.OtherMessages.{notesAfter, playNoteOff, playControl}
+use Rattle.other_messages.specs.OtherMessages.{notesAfter, playNoteOff, playControl, kindSet, playProgram}
 use Rattle.reports.specs.Reports.{reported}
 use Rattle.exclusive.specs.Exclusive.{newTable}
 use Rattle.note_book.specs.Book.{Book, Heard}
@@ -37,6 +38,16 @@ use Rattle.note_book.proofs.Matches.{Matches, note-law}
 use Rattle.note_book.proofs.Steps.{gives-way, way-busy}
 use Rattle.note_book.proofs.Run.{Right, right-nothing, right-message, right-table}
 use Rattle.note_book.proofs.Run.{right-reset, right-report, Lawful, Fine, fine-next}
+
+follows-kind : (i : Instrument) → Ordered (i .generators) → (l : List ℕ) → Follows (i .generators) l
+    → (r : Bool) → Follows (kindSet i r .generators) l
+unfolding kindSet
+follows-kind i o l f r = go (differ r (of-instrument.isRhythm i 11))
+  where
+    go : (x : Bool) → Follows ((if x then withGenerators (withKind i r)
+        (changed (change.ReleaseChannel 11) (i .generators)) else i) .generators) l
+    go true = follows-changed (change.ReleaseChannel 11) (i .generators) o l f
+    go false = f
 
 module _ (i : Instrument) (o : Ordered (i .generators)) (l : List ℕ) (f : Follows (i .generators) l) where
   follows-off : (c k : ℕ) → Follows (playNoteOff i c k .generators) l
@@ -57,6 +68,20 @@ module _ (i : Instrument) (o : Ordered (i .generators)) (l : List ℕ) (f : Foll
     where
       kept : Generators → Type 0
       kept s = Follows s l
+
+  follows-program : (c n : ℕ) → Follows (playProgram i c n .generators) l
+  unfolding playProgram withChannel
+  follows-program c n = go (eqb c 11)
+    where
+      j : Instrument
+      j = withChannel i c (withProgram (of-instrument.channelOf i c) n)
+
+      r : Bool
+      r = rhythmBy (of-instrument.channelOf i c .«bank_msb») (of-instrument.isRhythm i 11)
+
+      go : (x : Bool) → Follows ((if x then kindSet j r else j) .generators) l
+      go true = follows-kind j o l f r
+      go false = f
 
   follows-table : (t : Table) → Follows (newTable i t .generators) l
   unfolding newTable masked
@@ -92,7 +117,7 @@ step i j b h a (right-nothing x n) m l f = subst (Follows (i .generators)) (sym 
 step i j b h a (right-message (NoteOn c k) s) m l f = note-law i b m c k .follows l f
 step i j b h a (right-message (NoteOff c k) s) m l f = follows-off i (m .playable .ordered) l f c k
 step i j b h a (right-message (Control c n v) s) m l f = follows-control i (m .playable .ordered) l f c n v
-step i j b h a (right-message (Program c n) s) m l f = f
+step i j b h a (right-message (Program c n) s) m l f = follows-program i (m .playable .ordered) l f c n
 step i j b h a (right-message (Bend c x y) s) m l f = f
 step i j b h a (right-message Other s) m l f = f
 step i j b h a (right-table t w) m l f = follows-table i (m .playable .ordered) l f t

@@ -1,4 +1,4 @@
--- The three theorems about every list: for every P and own ID, refused starts too, and every list of bytes and reports
+-- The four theorems about every list: for every P and own ID, refused starts too, and every list of bytes and reports
 -- from that start.
 --
 -- `demand-3`: after every event the busy generators are exactly the notes of the book (`exact`); a note is stolen, or
@@ -8,9 +8,11 @@
 -- `who-loses`: where a note must go, the book and the answers so far give the device's answer, with the generator that
 -- is stolen (`foretold`); and a key that is down is stolen only where its channel has no note on the pedal
 -- (`pedal-first`).
+-- `rhythm-is-by-book`: the rhythm channels of the record are those of the book.
 --
--- What these words mean stands in specs/Book.antt, specs/Claim.antt, specs/Age.antt and specs/WhoLoses.antt. The
--- theorems hold of every lawful system (`Run`, `Age`, `WhoLoses`), and bytes and reports are one (`Bytes`).
+-- What these words mean stands in specs/Book.antt, specs/Claim.antt, specs/Age.antt, specs/WhoLoses.antt and
+-- specs/Rhythm.antt. The theorems hold of every lawful system (`Run`, `Age`, `WhoLoses`, and the invariant itself), and
+-- bytes and reports are one (`Bytes`).
 -- Assumes nothing.
 use Prim.Native.Nat.{ℕ}
 use mathlib.Core.List.{List}
@@ -18,7 +20,9 @@ use Rattle.events.specs.declared.Event.{Event}
 use Rattle.note_book.specs.Claim.{Demand3, Live, begin}
 use Rattle.note_book.specs.Age.{AgeByAnswers}
 use Rattle.note_book.specs.WhoLoses.{WhoLoses}
-use Rattle.note_book.proofs.Run.{lawful-demand-3}
+use Rattle.note_book.specs.Rhythm.{SameRhythm}
+use Rattle.note_book.proofs.Matches.{same-rhythm}
+use Rattle.note_book.proofs.Run.{fine-after, lawful-demand-3}
 use Rattle.note_book.proofs.Age.{age-by-answers}
 use Rattle.note_book.proofs.WhoLoses.{lawful-who-loses}
 use Rattle.note_book.proofs.Bytes.{lawful, fine-begin, silent-begin}
@@ -31,3 +35,6 @@ age-is-by-answers p id l = age-by-answers Live lawful (begin p id) (fine-begin p
 
 pub who-loses : (p id : ℕ) (l : List Event) → WhoLoses Live (begin p id) l
 who-loses p id l = lawful-who-loses Live lawful (begin p id) (fine-begin p id) (silent-begin p id) l
+
+pub rhythm-is-by-book : (p id : ℕ) (l : List Event) → SameRhythm Live (begin p id) l
+rhythm-is-by-book p id l c = same-rhythm _ _ (fine-after Live lawful (begin p id) (fine-begin p id) l .matches) c

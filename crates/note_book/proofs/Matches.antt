@@ -3,7 +3,7 @@
 -- it can answer said of the book only. All that follows goes by cases on that.
 -- Assumes nothing.
 use mathlib.Core.Path.{_≡_, refl, sym, ap, ap₂, _∙_, subst}
-use mathlib.Core.Bool.{Bool, true, false, _&&_, false≢true}
+use mathlib.Core.Bool.{Bool, true, false, _&&_, _||_, false≢true}
 use mathlib.Core.List.{List, [], _∷_, _++_}
 use mathlib.Core.Option.{Option, some, none}
 use Prim.Native.Nat.{ℕ, _≤_, _<_}
@@ -62,6 +62,8 @@ pub record Matches (i : Instrument) (b : Book) : Type 0 where
   pub table : entriesOf (i .table) ≡ b .table
   pub sixteen : length (i .channels) ≡ 16
   pub holds : (c : ℕ) → 1 ≤ c → channelOf i c .hold ≡ b .holds c
+  pub bank : channelOf i 11 .«bank_msb» ≡ b .bank
+  pub kind : eqb (i .kind) 1 ≡ b .rhythm
   pub playable : Playable (b .polyphony) (i .generators)
   pub notes : Sees (b .notes) (i .generators)
   pub well-formed : WellFormed (b .table)
@@ -79,6 +81,8 @@ matches-notes i b m s n p e u =
       table = m .table;
       sixteen = m .sixteen;
       holds = m .holds;
+      bank = m .bank;
+      kind = m .kind;
       playable = p;
       notes = e;
       well-formed = m .well-formed;
@@ -150,10 +154,10 @@ pub same-share : (i : Instrument) (b : Book) → Matches i b → (c : ℕ)
 unfolding of-table.shareOf
 same-share i b m c = ap₂ (λ (p : ℕ) (l : List Entry). lookup c (sharesFrom p 0 l)) (m .polyphony) (m .table)
 
--- one rhythm channel for both
+-- the same rhythm channels for both
 pub same-rhythm : (i : Instrument) (b : Book) → Matches i b → (c : ℕ) → of-instrument.isRhythm i c ≡ isRhythm b c
 unfolding of-instrument.isRhythm
-same-rhythm i b m c = refl
+same-rhythm i b m c = ap (λ (r : Bool). eqb c 10 || eqb c 11 && r) (m .kind)
 
 pub note-law : (i : Instrument) (b : Book) → Matches i b → (c k : ℕ) → NoteLaw i b c k (playNoteOn i c k)
 unfolding playNoteOn noteOn

@@ -9,7 +9,7 @@ use Prim.Native.Nat.{ℕ, zero, suc, _+_, _≤_}
 use native.Mathlib.Omega.{arith}
 use borrow.Author.Tests.{eqb-true, eq-eqb, ne-eqb}
 use lib.Dec.{eqb}
-use Rattle.loops.specs.Cases.{if_then_else_, bit}
+use Rattle.loops.specs.Cases.{if_then_else_, differ, bit}
 use Rattle.loops.specs.Passes.{total}
 use Rattle.loops.proofs.Cases.{by-both}
 use Rattle.loops.proofs.Totals.{total-same, total-le}
@@ -26,12 +26,13 @@ use Rattle.instrument.specs.Instrument.{fresh}
 use Rattle.playing.specs.declared.Answer.{Answer}
 use Rattle.playing.specs.declared.Answer.the-variants.{Done}
 use Rattle.playing.specs.Playing.{played}
+use Rattle.channels.specs.Channel.{rhythmBy}
 use Rattle.controllers.specs.Controllers.{liftsPedal, silencesAll, endsAll}
 use Rattle.reports.specs.Reports.{reported}
 use Rattle.exclusive.specs.Exclusive as of-exclusive
 use Rattle.note_book.specs.Book.{Slot, empty, note, Book, isDone, shareOf, isRhythm, isOf}
-use Rattle.note_book.specs.Book.{isEnded, freed, allFreed, put, withHolds, remaining, keepNoteOn}
-use Rattle.note_book.specs.Book.{notesAfter, keepControl, keepMessage, keepReport, Heard, nothing}
+use Rattle.note_book.specs.Book.{isEnded, freed, allFreed, put, withHolds, withBank, withRhythm, remaining, keepNoteOn}
+use Rattle.note_book.specs.Book.{notesAfter, keepControl, kindKept, keepProgram, keepMessage, keepReport, Heard, nothing}
 use Rattle.note_book.specs.Book.{message, newTable, reset, report, keep, notesOn, countAt}
 use Rattle.note_book.specs.Claim.{IsWithin, isLoss, IsFull, Fair, Keeps, Safe, AtNoteOn}
 use Rattle.note_book.specs.Claim.{IsInRun, System, after, IsExact, Always, Each, IsRun, Demand3}
@@ -115,6 +116,12 @@ tame-freed f p b =
 tame-holds : (b b′ : Book) (h : ℕ → ℕ) → Tamer b b′ → Tamer b (withHolds b′ h)
 tame-holds b b′ h t = record { same-polyphony = t .same-polyphony; same-table = t .same-table; fewer = t .fewer }
 
+tame-bank : (b b′ : Book) (v : ℕ) → Tamer b b′ → Tamer b (withBank b′ v)
+tame-bank b b′ v t = record { same-polyphony = t .same-polyphony; same-table = t .same-table; fewer = t .fewer }
+
+tame-rhythm : (b b′ : Book) (r : Bool) → Tamer b b′ → Tamer b (withRhythm b′ r)
+tame-rhythm b b′ r t = record { same-polyphony = t .same-polyphony; same-table = t .same-table; fewer = t .fewer }
+
 tame-report : (b : Book) (g : ℕ) (a : Answer) → Tamer b (keepReport b g a)
 tame-report b g a =
     by-both (Tamer b) (isDone a) _ _
@@ -127,10 +134,19 @@ tame-report b g a =
 
 tame-control : (b : Book) (c n v : ℕ) → Tamer b (keepControl b c n v)
 tame-control b c n v =
-    tame-holds b (notesAfter b c n v) _
+    tame-bank b _ _
+    (tame-holds b (notesAfter b c n v) _
     (by-both (Tamer b) (liftsPedal n v) _ _ (tame-freed _ _ b)
     (by-both (Tamer b) (silencesAll n v) _ _ (tame-freed _ _ b)
-    (by-both (Tamer b) (endsAll n v) _ _ (tame-freed _ _ b) (tame-same b))))
+    (by-both (Tamer b) (endsAll n v) _ _ (tame-freed _ _ b) (tame-same b)))))
+
+tame-kind : (b : Book) (r : Bool) → Tamer b (kindKept b r)
+tame-kind b r =
+    by-both (Tamer b) (differ r (b .rhythm)) _ _ (tame-rhythm b _ r (tame-freed (isOf 11) false b)) (tame-same b)
+
+tame-program : (b : Book) (c : ℕ) → Tamer b (keepProgram b c)
+tame-program b c =
+    by-both (Tamer b) (eqb c 11) _ _ (tame-kind b (rhythmBy (b .bank) (b .rhythm))) (tame-same b)
 
 -- ---- the claims at a note-on
 
@@ -239,7 +255,7 @@ module _ (i j : Instrument) (b : Book) (m : Matches i b) where
   within-heard c (message (NoteOff d x)) a r n w k =
       within-tame c b _ (by-both (Tamer b) (isRhythm b d) _ _ (tame-same b) (tame-freed _ _ b)) w
   within-heard c (message (Control d x v)) a r n w k = within-tame c b _ (tame-control b d x v) w
-  within-heard c (message (Program d x)) a r n w k = w
+  within-heard c (message (Program d x)) a r n w k = within-tame c b _ (tame-program b d) w
   within-heard c (message (Bend d x y)) a r n w k = w
   within-heard c (message Other) a r n w k = w
   within-heard c (newTable t) a r n w k = absurd n

@@ -1,7 +1,8 @@
 -- Demand 3 bites. First its words, for any book and answer: what keeps within a share, what ends a run, what is
 -- served, robbed and lost is no less than the rules say; a claim emptied behind its name would not give these facts.
--- Then the words of who loses, and the end of any list. Short lists in which the theorems alone, not the device, say
--- what becomes of a note stand in crate `witnesses`, so that they are computed once and not for each wrong answer.
+-- Then the words of who loses, the end of any list, and the rhythm channels. Short lists in which the theorems alone,
+-- not the device, say what becomes of a note stand in crate `witnesses`, so that they are computed once and not for
+-- each wrong answer.
 -- Assumes nothing.
 use mathlib.Core.Path.{_≡_, refl, sym, ap, _∙_}
 use mathlib.Core.Bool.{Bool, true, false, not, _&&_, _||_, false≢true}
@@ -18,6 +19,7 @@ use Rattle.generators.specs.Generators.{at, isIdle}
 use Rattle.allocation.specs.declared.Was.{Was}
 use Rattle.allocation.specs.declared.Was.the-variants.{Stolen}
 use Rattle.allocation.specs.Allocation.{isStolen}
+use Rattle.instrument.specs.Instrument as of-instrument
 use Rattle.playing.specs.declared.Answer.{Answer}
 use Rattle.playing.specs.declared.Answer.the-variants.{Nothing, Done, Note, NoNote, Number}
 use Rattle.events.specs.declared.Event.{Event}
@@ -28,6 +30,7 @@ use Rattle.note_book.specs.Claim.{IsWithin, isLoss, isServed, Fair, Safe
 use Rattle.note_book.specs.Claim.{AtNoteOn, IsExact, Always, Each, IsRun, StaysWithin, Demand3, Live, begin}
 use Rattle.note_book.specs.Age.{named, byAnswers}
 use Rattle.note_book.specs.WhoLoses.{firstToGo, goes, lossAnswer, Foretold, PedalFirst, EachForetold, WhoLoses}
+use Rattle.note_book.specs.Rhythm.{SameRhythm}
 use Rattle.note_book.proofs.Demand3.{demand-3}
 
 -- ---- the words, whatever the device
@@ -189,3 +192,9 @@ pub none-beyond : (p id : ℕ) (l : List Event) (g : ℕ) → after Live (begin 
     → isIdle (at (after Live (begin p id) l .device .instrument .generators) g) ≡ true
 none-beyond p id l =
     beyond-idle Live (after Live (begin p id) l) (exact-after Live (begin p id) l (demand-3 p id l .exact))
+
+-- the rhythm channels of the record are told for every channel, 11 among them
+module _ (S : System) (s : S .State) (l : List (S .Event)) where
+  pub rhythm-at : SameRhythm S s l → (c : ℕ)
+      → of-instrument.isRhythm (S .instrument (after S s l)) c ≡ of-book.isRhythm (S .book (after S s l)) c
+  rhythm-at h c = h c

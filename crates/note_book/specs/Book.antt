@@ -5,7 +5,7 @@ use mathlib.Core.Bool.{Bool, true, false, not, _&&_, _||_}
 use mathlib.Core.List.{List, map}
 use lib.Dec.{eqb, leb}
 use lib.ListN.{drop}
-use Rattle.loops.specs.Cases.{if_then_else_, bit}
+use Rattle.loops.specs.Cases.{if_then_else_, differ, bit}
 use Rattle.loops.specs.Passes.{total}
 use Rattle.splitter.specs.declared.Parser.{Parser}
 use Rattle.splitter.specs.declared.Completed.{Completed}
@@ -18,6 +18,7 @@ use Rattle.table.specs.declared.Entry.{Entry}
 use Rattle.table.specs.Table.{entry, startOrder}
 use Rattle.shares.specs.declared.Share.{Share}
 use Rattle.shares.specs.Shares.{sharesFrom, lookup, isMasked}
+use Rattle.channels.specs.Channel.{rhythmBy}
 use Rattle.sysex.specs.declared.Kind.{Kind}
 use Rattle.sysex.specs.declared.Kind.the-variants as kind
 use Rattle.sysex.specs.SysEx.{kindOf}
@@ -54,27 +55,89 @@ pub data Slot : Type 0 where
   empty : Slot
   note : (onPedal : Bool) (channel key : ℕ) → Slot
 
--- R9.3: P and the own ID, the slot of each generator, the hold of each channel, and the table
+-- R9.3: P and the own ID, the slot of each generator, the hold of each channel, the table, and of channel 11 the MSB of
+-- its bank and whether it is a rhythm channel
 pub record Book : Type 0 where
   pub polyphony : ℕ
   pub id : ℕ
   pub notes : ℕ → Slot
   pub holds : ℕ → ℕ
   pub table : List Entry
+  pub bank : ℕ
+  pub rhythm : Bool
 
 abbrev pub withNotes : Book → (ℕ → Slot) → Book
-withNotes b n = record { polyphony = b .polyphony; id = b .id; notes = n; holds = b .holds; table = b .table }
+withNotes b n =
+    record {
+      polyphony = b .polyphony;
+      id = b .id;
+      notes = n;
+      holds = b .holds;
+      table = b .table;
+      bank = b .bank;
+      rhythm = b .rhythm;
+    }
 
 abbrev pub withHolds : Book → (ℕ → ℕ) → Book
-withHolds b h = record { polyphony = b .polyphony; id = b .id; notes = b .notes; holds = h; table = b .table }
+withHolds b h =
+    record {
+      polyphony = b .polyphony;
+      id = b .id;
+      notes = b .notes;
+      holds = h;
+      table = b .table;
+      bank = b .bank;
+      rhythm = b .rhythm;
+    }
 
 abbrev pub withTable : Book → List Entry → Book
-withTable b t = record { polyphony = b .polyphony; id = b .id; notes = b .notes; holds = b .holds; table = t }
+withTable b t =
+    record {
+      polyphony = b .polyphony;
+      id = b .id;
+      notes = b .notes;
+      holds = b .holds;
+      table = t;
+      bank = b .bank;
+      rhythm = b .rhythm;
+    }
+
+abbrev pub withBank : Book → ℕ → Book
+withBank b v =
+    record {
+      polyphony = b .polyphony;
+      id = b .id;
+      notes = b .notes;
+      holds = b .holds;
+      table = b .table;
+      bank = v;
+      rhythm = b .rhythm;
+    }
+
+abbrev pub withRhythm : Book → Bool → Book
+withRhythm b r =
+    record {
+      polyphony = b .polyphony;
+      id = b .id;
+      notes = b .notes;
+      holds = b .holds;
+      table = b .table;
+      bank = b .bank;
+      rhythm = r;
+    }
 
 -- R9.4: a fresh book
 abbrev pub freshBook : ℕ → ℕ → Book
 freshBook p id =
-    record { polyphony = p; id = id; notes = λ g. empty; holds = λ c. 0; table = map (λ (c : ℕ). entry c p) startOrder }
+    record {
+      polyphony = p;
+      id = id;
+      notes = λ g. empty;
+      holds = λ c. 0;
+      table = map (λ (c : ℕ). entry c p) startOrder;
+      bank = 121;
+      rhythm = false;
+    }
 
 -- R9.3: the book of a start, of P 1 and own ID 0 where that was refused
 abbrev pub startBook : ℕ → ℕ → Answer → Book
@@ -84,9 +147,9 @@ startBook p id a = if isDone a then freshBook p id else freshBook 1 0
 abbrev pub shareOf : Book → ℕ → Share
 shareOf b c = lookup c (sharesFrom (b .polyphony) 0 (b .table))
 
--- R5.12, R6.3: the rhythm channel, and a pedal that is down
+-- R5.12, R6.3: the rhythm channels, and a pedal that is down
 abbrev pub isRhythm : Book → ℕ → Bool
-isRhythm b c = eqb c 10
+isRhythm b c = eqb c 10 || eqb c 11 && b .rhythm
 
 abbrev pub pedalDown : Book → ℕ → Bool
 pedalDown b c = leb 64 (b .holds c)
@@ -188,14 +251,27 @@ notesAfter b c n v =
     if endsAll n v then allFreed (λ s. isDown s && isOf c s) (pedalDown b c && not (isRhythm b c)) b else
     b
 
+-- R9.18: the bank of channel 11 after a controller of channel c
+abbrev pub bankAfter : ℕ → ℕ → ℕ → ℕ → ℕ
+bankAfter c n v x = if eqb n 0 && eqb c 11 then v else x
+
 abbrev pub keepControl : Book → ℕ → ℕ → ℕ → Book
-keepControl b c n v = withHolds (notesAfter b c n v) (λ d. if eqb d c then holdAfter n v (b .holds d) else b .holds d)
+keepControl b c n v =
+    withBank (withHolds (notesAfter b c n v) (λ d. if eqb d c then holdAfter n v (b .holds d) else b .holds d))
+    (bankAfter c n v (b .bank))
+
+-- R9.19: the kind of channel 11; where it is another one its notes leave
+abbrev pub kindKept : Book → Bool → Book
+kindKept b r = if differ r (b .rhythm) then withRhythm (allFreed (isOf 11) false b) r else b
+
+abbrev pub keepProgram : Book → ℕ → Book
+keepProgram b c = if eqb c 11 then kindKept b (rhythmBy (b .bank) (b .rhythm)) else b
 
 unfoldable pub keepMessage : Book → Message → Answer → Book
 keepMessage b (NoteOn c k) a = keepNoteOn b c k a
 keepMessage b (NoteOff c k) a = keepNoteOff b c k
 keepMessage b (Control c n v) a = keepControl b c n v
-keepMessage b (Program c n) a = b
+keepMessage b (Program c n) a = keepProgram b c
 keepMessage b (Bend c msb lsb) a = b
 keepMessage b Other a = b
 

@@ -2,7 +2,8 @@
 -- a number), the number, 0 where it has none, and the values that the answer carries. A field without meaning is 0.
 use Prim.Native.Nat.{ℕ}
 use mathlib.Core.Path.{_≡_}
-use Rattle.loops.specs.Cases.{orZero}
+use mathlib.Core.Bool.{Bool}
+use Rattle.loops.specs.Cases.{bit, orZero}
 use Rattle.allocation.specs.declared.Was.{Was}
 use Rattle.allocation.specs.declared.Was.the-variants.{Idle, Release, Stolen}
 use Rattle.playing.specs.declared.Answer.{Answer}
@@ -58,6 +59,10 @@ maskNumbers NoSuchChannel = record { number = orZero (maskNumber NoSuchChannel);
 abbrev pub shareNumbers : ShareAnswer → ShareNumbers
 shareNumbers (ShareIs n) = record { number = 0; share = n }
 shareNumbers NotAChannel = record { number = orZero (shareNumber NotAChannel); share = 0 }
+
+-- R18.6: 1 for a rhythm channel, 0 for another
+abbrev pub rhythmNumber : Bool → ℕ
+rhythmNumber rhythm = bit rhythm
 
 -- R18.4: a pitch or, beside number 21, octave 0 and 65536
 abbrev pub pitchNumbers : PitchAnswer → PitchNumbers

@@ -2,10 +2,11 @@
 // record. Assumes nothing.
 ghost use mathlib.Core.Path.{_≡_};
 ghost use Rattle.loops.specs.Cases.{orZero};
-ghost use Rattle.queries.specs.Queries.{generatorQuery, maskQuery, shareQuery};
+ghost use Rattle.queries.specs.Queries.{generatorQuery, maskQuery, shareQuery, rhythmQuery};
 ghost use Rattle.service.specs.Page.{pageNumber, pageAfter, pageAnswer};
 ghost use Rattle.pitch.specs.Pitch.{pitchOf};
 ghost use Rattle.numbers.specs.Numbers.{wasNumber, numbersOf, generatorNumbers, maskNumbers, shareNumbers};
+ghost use Rattle.numbers.specs.Numbers.{rhythmNumber};
 ghost use Rattle.numbers.specs.Numbers.{pitchNumbers, GainsTold, GainsToldOf, refusedSong, songNumbers};
 use allocation::Was;
 use channels::Channel;
@@ -181,6 +182,13 @@ pub fn share_numbers(d: Device, channel: u8) -> ShareNumbers
             share: 0,
         },
     }
+}
+
+// 1 for a rhythm channel, 0 for any other.
+pub fn rhythm_number(d: Device, channel: u8) -> u8
+    ensures { λ r. ⌜ r ≡ rhythmNumber (rhythmQuery d channel) ⌝ }
+{
+    loops::one(queries::rhythm_query(d, channel))
 }
 
 // The service page into a lent buffer: 0, or number 18 for a buffer that is too short.

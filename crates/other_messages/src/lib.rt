@@ -1,7 +1,8 @@
-// What a note-off and a controller do to the sound module (R6.2, R6.4, R6.7 to R6.14), by value, for every value. No
-// mask is looked at here. Assumes nothing.
+// What a note-off, a controller and a program change do to the sound module (R6.2, R6.4, R6.7 to R6.16), by value, for
+// every value. No mask is looked at here. Assumes nothing.
 ghost use mathlib.Core.Path.{_≡_};
 ghost use Rattle.other_messages.specs.OtherMessages.{notesAfter, playNoteOff, playControl};
+ghost use Rattle.other_messages.specs.OtherMessages.{kindSet, playProgram};
 use generators::Generators;
 use instrument::Instrument;
 use releases::Change;
@@ -43,4 +44,29 @@ pub fn note_off(i: Instrument, channel: u8, key: u8) -> Instrument
     let pedal = i.pedal_down(channel);
     let after = releases::apply(i.generators, Change::NoteOff(pedal, channel, key));
     i.with_generators(after)
+}
+
+// Channel 11 becomes a rhythm channel or one of melody. Where that is another kind its notes end: a drum would not by its
+// note-off, nor a note of melody by the next drum of its group.
+fn set_kind(i: Instrument, rhythm: bool) -> Instrument
+    ensures { λ r. ⌜ r ≡ kindSet i rhythm ⌝ }
+{
+    let was = i.is_rhythm(11);
+    if (rhythm & !was) | (!rhythm & was) {
+        let after = releases::apply(i.generators, Change::ReleaseChannel(11));
+        return i.with_kind(rhythm).with_generators(after);
+    }
+    i
+}
+
+// The program is stored, and channel 11 takes its kind from the bank that was chosen before.
+pub fn program(i: Instrument, channel: u8, program: u8) -> Instrument
+    ensures { λ r. ⌜ r ≡ playProgram i channel program ⌝ }
+{
+    let x = i.channel_of(channel);
+    let next = i.with_channel(channel, x.program(program));
+    if channel == 11 {
+        return set_kind(next, x.rhythm_by(i.is_rhythm(11)));
+    }
+    next
 }

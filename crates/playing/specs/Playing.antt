@@ -1,17 +1,17 @@
--- What a complete channel message does to the sound module, and what it answers (R4.11, R4.12). What note-offs and
--- controllers do is in `other_messages`.
+-- What a complete channel message does to the sound module, and what it answers (R4.11, R4.12). What note-offs,
+-- controllers and program changes do is in `other_messages`.
 use Prim.Native.Nat.{ℕ}
 use mathlib.Core.Option.{Option, some, none}
 use Rattle.message.specs.declared.Message.{Message}
 use Rattle.message.specs.declared.Message.the-variants as message
-use Rattle.channels.specs.Channel.{withProgram, withBend}
+use Rattle.channels.specs.Channel.{withBend}
 use Rattle.allocation.specs.declared.Taken.{Taken}
 use Rattle.allocation.specs.declared.Taken.the-variants.{Took, Refused}
 use Rattle.allocation.specs.declared.Allocated.{Allocated}
 use Rattle.allocation.specs.Allocation.{noteOn}
 use Rattle.instrument.specs.declared.Instrument.{Instrument}
 use Rattle.instrument.specs.Instrument.{channelOf, withChannel, withGenerators, isRhythm}
-use Rattle.other_messages.specs.OtherMessages.{playNoteOff, playControl}
+use Rattle.other_messages.specs.OtherMessages.{playNoteOff, playControl, playProgram}
 use Rattle.playing.specs.declared.Answer.{Answer}
 use Rattle.playing.specs.declared.Answer.the-variants.{Nothing, Done, Note, NoNote, Number}
 use Rattle.playing.specs.declared.Reply.{Reply}
@@ -41,7 +41,7 @@ unfoldable pub played : Instrument → Message → Reply
 played i (message.NoteOn c k) = playNoteOn i c k
 played i (message.NoteOff c k) = replied Done (playNoteOff i c k)
 played i (message.Control c n v) = replied Done (playControl i c n v)
-played i (message.Program c n) = replied Done (withChannel i c (withProgram (channelOf i c) n))
+played i (message.Program c n) = replied Done (playProgram i c n)
 played i (message.Bend c msb lsb) = replied Done (withChannel i c (withBend (channelOf i c) msb lsb))
 played i message.Other = replied Done i
 

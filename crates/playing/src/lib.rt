@@ -86,10 +86,7 @@ pub fn play(i: Instrument, m: Message) -> Reply
         Message::NoteOn(c, k) => note_on(i, c, k),
         Message::NoteOff(c, k) => Reply::new(Answer::Done, other_messages::note_off(i, c, k)),
         Message::Control(c, n, v) => Reply::new(Answer::Done, other_messages::control(i, c, n, v)),
-        Message::Program(c, n) => Reply::new(
-            Answer::Done,
-            i.with_channel(c, i.channel_of(c).program(n)),
-        ),
+        Message::Program(c, n) => Reply::new(Answer::Done, other_messages::program(i, c, n)),
         Message::Bend(c, msb, lsb) => Reply::new(
             Answer::Done,
             i.with_channel(c, i.channel_of(c).bend(msb, lsb)),

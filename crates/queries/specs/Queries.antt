@@ -1,5 +1,6 @@
 -- R7.3: queries give an answer and no record.
 use Prim.Native.Nat.{ℕ}
+use mathlib.Core.Bool.{Bool}
 use mathlib.Core.Option.{Option, some, none}
 use lib.Dec.{leb}
 use Rattle.loops.specs.Cases.{if_then_else_}
@@ -7,6 +8,7 @@ use Rattle.shares.specs.declared.Share.{Share}
 use Rattle.shares.specs.declared.Share.the-variants.{Masked, Units}
 use Rattle.shares.specs.Shares.{shareOf, isChannel}
 use Rattle.generators.specs.Generators.{at}
+use Rattle.instrument.specs.Instrument.{isRhythm}
 use Rattle.device.specs.declared.Device.{Device}
 use Rattle.queries.specs.declared.GeneratorAnswer.{GeneratorAnswer}
 use Rattle.queries.specs.declared.GeneratorAnswer.the-variants.{GeneratorIs, NoGenerator}
@@ -53,3 +55,7 @@ shareQuery d c =
 abbrev pub shareNumber : ShareAnswer → Option ℕ
 shareNumber (ShareIs n) = none
 shareNumber NotAChannel = some 14
+
+-- R7.7: whether it is a rhythm channel
+unfoldable pub rhythmQuery : Device → ℕ → Bool
+rhythmQuery d c = isRhythm (d .instrument) c

@@ -1,7 +1,7 @@
-// The queries of the device (R7.3 to R7.6): they change nothing. By value, for every value of the record. Assumes
+// The queries of the device (R7.3 to R7.7): they change nothing. By value, for every value of the record. Assumes
 // nothing.
 ghost use mathlib.Core.Path.{_≡_};
-ghost use Rattle.queries.specs.Queries.{generatorQuery, maskQuery, shareQuery};
+ghost use Rattle.queries.specs.Queries.{generatorQuery, maskQuery, shareQuery, rhythmQuery};
 use device::Device;
 use shares::Share;
 
@@ -78,4 +78,12 @@ pub fn share_query(d: Device, channel: u8) -> ShareAnswer
         };
     }
     ShareAnswer::NotAChannel
+}
+
+// Whether it is a rhythm channel; what is no channel is none.
+pub fn rhythm_query(d: Device, channel: u8) -> bool
+    ensures { λ r. ⌜ r ≡ rhythmQuery d channel ⌝ }
+{
+    let i = d.instrument;
+    i.is_rhythm(channel)
 }

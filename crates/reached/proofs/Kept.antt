@@ -1,5 +1,5 @@
--- The claim, by what every event keeps: each channel in range, and the first data byte that the parser holds at most
--- 127. A data byte is below 128, so that what a channel message carries is at most 127; it is the last byte, or the
+-- The claim, by what every event keeps: each channel in range, the kind 0 or 1, and the first data byte that the parser
+-- holds at most 127. A data byte is below 128, so that what a channel message carries is at most 127; it is the last byte, or the
 -- first one kept. Nothing else touches the channels but a reset, which makes them fresh.
 -- Assumes nothing.
 use mathlib.Core.Path.{_≡_, refl, _∙_}
@@ -10,7 +10,7 @@ use native.Mathlib.Omega.{arith}
 use borrow.Author.Tests.{ltb-true}
 use lib.Dec.{eqb, leb, ltb}
 use lib.ListN.{length, getD, set, drop, replicate, length-set}
-use Rattle.loops.specs.Cases.{if_then_else_, atMost}
+use Rattle.loops.specs.Cases.{if_then_else_, differ, bit, atMost}
 use Rattle.loops.proofs.Cases.{by-both}
 use Rattle.splitter.specs.declared.Parser.{Parser}
 use Rattle.splitter.specs.declared.Completed.{Completed}
@@ -28,14 +28,17 @@ use Rattle.mip.specs.declared.Verdict.{Verdict}
 use Rattle.mip.specs.declared.Verdict.the-variants.{Accepted, Refused}
 use Rattle.mip.specs.Mip.{judged}
 use Rattle.channels.specs.declared.Channel.{Channel}
-use Rattle.channels.specs.Channel.{fresh}
+use Rattle.channels.specs.Channel.{fresh, freshRhythm, withProgram}
 use Rattle.controllers.specs.Controllers.{dataEntry, reset, controlled}
 use Rattle.controllers.specs.Controllers as of-controllers
 use Rattle.generators.specs.Generators.{at, isIdle}
+use Rattle.releases.specs.declared.Change.the-variants.{ReleaseChannel}
+use Rattle.releases.specs.Releases.{changed}
 use Rattle.instrument.specs.declared.Instrument.{Instrument}
-use Rattle.instrument.specs.Instrument.{channelAt, replaced, channelOf, withChannel, isRhythm}
+use Rattle.instrument.specs.Instrument.{channelAt, replaced, channelOf, withChannel, withKind, withGenerators}
+use Rattle.instrument.specs.Instrument.{isRhythm}
 use Rattle.instrument.specs.Instrument as of-instrument
-use Rattle.other_messages.specs.OtherMessages.{playNoteOff, playControl}
+use Rattle.other_messages.specs.OtherMessages.{playNoteOff, playControl, kindSet, playProgram}
 use Rattle.playing.specs.declared.Reply.{Reply}
 use Rattle.playing.specs.Playing.{playNoteOn, played}
 use Rattle.exclusive.specs.Exclusive.{newTable, judgedReply, mipTaken, kindReply, exclusive}
@@ -53,6 +56,10 @@ use Rattle.reached.specs.Reached.{InRange, after, AlwaysInRange}
 fresh-in-range : InRange fresh
 unfolding fresh
 fresh-in-range = omega arith
+
+rhythm-in-range : InRange freshRhythm
+unfolding fresh freshRhythm
+rhythm-in-range = omega arith
 
 at-most-24 : (v : ℕ) → atMost 24 v ≤ 24
 at-most-24 v = go (ltb v 24) refl
@@ -88,29 +95,23 @@ module _ (c : Channel) (r : InRange c) where
           sensitivity = up-to 24 (eqb n 6) _ _
               (up-to 24 (eqb (c .«rpn_msb») 0 && eqb (c .«rpn_lsb») 0) _ _ (at-most-24 v) (r .sensitivity))
               (r .sensitivity);
+          «bank_msb» = up-to 127 (eqb n 0) _ _ h (r .«bank_msb»);
+          «bank_lsb» = up-to 127 (eqb n 32) _ _ h (r .«bank_lsb»);
         }
 
     controlled-in-range : InRange (controlled c n v)
     unfolding controlled
     controlled-in-range = by-both InRange (eqb n 121 && eqb v 0) (reset c) _ reset-in-range stored-in-range
 
--- ---- the sixteen channels; a fresh one stands for a place that there is not
+-- ---- the sixteen channels, where a fresh one stands for a place that there is not, and the kind of channel 11
 
-record Channels (l : List Channel) : Type 0 where
+record Channels (l : List Channel) (n : ℕ) : Type 0 where
   sixteen : length l ≡ 16
   each : (i : ℕ) → InRange (getD l i fresh)
+  kind : n ≤ 1
 
 abbrev Kept : Instrument → Type 0
-Kept i = Channels (i .channels)
-
-fresh-kept : (p id : ℕ) → Kept (of-instrument.fresh p id)
-unfolding of-instrument.fresh
-fresh-kept p id = record { sixteen = refl; each = go 16 }
-  where
-    go : (n i : ℕ) → InRange (getD (replicate n fresh) i fresh)
-    go zero i = fresh-in-range
-    go (suc n) zero = fresh-in-range
-    go (suc n) (suc i) = go n i
+Kept i = Channels (i .channels) (i .kind)
 
 set-in-range : (l : List Channel) (i : ℕ) (x : Channel) → InRange x
     → ((j : ℕ) → InRange (getD l j fresh)) → (j : ℕ) → InRange (getD (set l i x) j fresh)
@@ -119,6 +120,19 @@ set-in-range (y ∷ l) zero x r h zero = r
 set-in-range (y ∷ l) zero x r h (suc j) = h (suc j)
 set-in-range (y ∷ l) (suc i) x r h zero = h zero
 set-in-range (y ∷ l) (suc i) x r h (suc j) = set-in-range l i x r (λ k. h (suc k)) j
+
+fresh-kept : (p id : ℕ) → Kept (of-instrument.fresh p id)
+unfolding of-instrument.fresh
+fresh-kept p id = record {
+  sixteen = refl;
+  each = set-in-range (replicate 16 fresh) 9 freshRhythm rhythm-in-range (go 16);
+  kind = omega arith;
+}
+  where
+    go : (n i : ℕ) → InRange (getD (replicate n fresh) i fresh)
+    go zero i = fresh-in-range
+    go (suc n) zero = fresh-in-range
+    go (suc n) (suc i) = go n i
 
 module _ (i : Instrument) (k : Kept i) where
   channel-in-range : (c : ℕ) → InRange (channelOf i c)
@@ -130,7 +144,20 @@ module _ (i : Instrument) (k : Kept i) where
   with-channel-kept c x r = record {
     sixteen = length-set (i .channels) (c - 1) x ∙ k .sixteen;
     each = set-in-range (i .channels) (c - 1) x r (k .each);
+    kind = k .kind;
   }
+
+  kind-set-kept : (r : Bool) → Kept (kindSet i r)
+  unfolding kindSet
+  kind-set-kept r = go (differ r (isRhythm i 11))
+    where
+      one : (r : Bool) → bit r ≤ 1
+      one true = omega arith
+      one false = omega arith
+
+      go : (x : Bool) → Kept (if x then withGenerators (withKind i r) (changed (ReleaseChannel 11) (i .generators)) else i)
+      go true = record { sixteen = k .sixteen; each = k .each; kind = one r }
+      go false = k
 
 -- ---- a channel message whose data bytes are at most 127
 
@@ -153,11 +180,15 @@ decode-carries s a b h j =
     (by-both Carries (eqb (s / 16) 14) _ _ (j, h) tt))))
 
 played-kept : (i : Instrument) → Kept i → (m : Message) → Carries m → Kept (played i m .instrument)
-unfolding played playNoteOn playNoteOff playControl
+unfolding played playNoteOn playNoteOff playControl playProgram
 played-kept i k (NoteOn c key) h = k
 played-kept i k (NoteOff c key) h = by-both Kept (isRhythm i c) _ _ k k
 played-kept i k (Control c n v) h = with-channel-kept i k c _ (controlled-in-range _ (channel-in-range i k c) n v h)
-played-kept i k (Program c n) h = with-channel-kept i k c _ (let r = channel-in-range i k c in omega arith)
+played-kept i k (Program c n) h =
+    by-both Kept (eqb c 11) _ _ (kind-set-kept _ kept _) kept
+  where
+    kept : Kept (withChannel i c (withProgram (channelOf i c) n))
+    kept = with-channel-kept i k c _ (let r = channel-in-range i k c in omega arith)
 played-kept i k (Bend c msb lsb) h = with-channel-kept i k c _ (let r = channel-in-range i k c in omega arith)
 played-kept i k Other h = k
 
@@ -298,4 +329,5 @@ always-in-range p id l =
     record {
       sixteen = w .kept .sixteen;
       each = λ c lo hi. channel-in-range (after (started p id .device) l .instrument) (w .kept) c;
+      kind = w .kept .kind;
     }

@@ -1,4 +1,4 @@
--- R12.11: the eleven numbers of a channel stay in MIDI's range, whatever is sent. A driver that asks for the gains by
+-- R12.11: the thirteen numbers of a channel stay in MIDI's range, whatever is sent. A driver that asks for the gains by
 -- a channel's numbers in the record is therefore never refused; for the pitch, sensitivity and bend are in their
 -- ranges.
 -- A byte is any number here: one above 255, which no u8 holds, is passed over like F8 to FF, so that nothing is asked
@@ -28,11 +28,14 @@ pub record InRange (c : Channel) : Type 0 where
   pub «bend_msb» : c .«bend_msb» ≤ 127
   pub «bend_lsb» : c .«bend_lsb» ≤ 127
   pub sensitivity : c .sensitivity ≤ 24
+  pub «bank_msb» : c .«bank_msb» ≤ 127
+  pub «bank_lsb» : c .«bank_lsb» ≤ 127
 
--- R1.8: there are sixteen channels, and 1 to 16 are in range
+-- R1.8: there are sixteen channels, and 1 to 16 are in range; R1.14: the kind of channel 11 is 0 or 1
 pub record AllInRange (d : Device) : Type 0 where
   pub sixteen : length (d .instrument .channels) ≡ 16
   pub each : (c : ℕ) → 1 ≤ c → c ≤ 16 → InRange (channelOf (d .instrument) c)
+  pub kind : d .instrument .kind ≤ 1
 
 -- the record that a list of bytes and reports leads to
 unfoldable pub after : Device → List Event → Device

@@ -11,8 +11,8 @@ use Rattle.releases.specs.declared.Change.{Change}
 use Rattle.releases.specs.declared.Change.the-variants.{ReleaseNote, ReleaseChannel}
 use Rattle.releases.specs.declared.Change.the-variants.{NoteOff, AllNotesOff, PedalUp}
 
--- which generators a change means: R5.2, a new note of their key; all of a channel, for which no rule asks yet; R6.2,
--- their note-off; R6.12, all note-offs of their channel; R6.7, the pedal comes up
+-- which generators a change means: R5.2, a new note of their key; R6.16, their channel becomes one of another kind;
+-- R6.2, their note-off; R6.12, all note-offs of their channel; R6.7, the pedal comes up
 unfoldable pub changes : Change → Generator → Bool
 changes (ReleaseNote c k) x = isBusyOn c x && eqb (x .key) k
 changes (ReleaseChannel c) x = isBusyOn c x

@@ -1,5 +1,5 @@
-// Changes of state: what keys and pedals do to notes (R5.2, R6.2, R6.7, R6.12), by value, for every
-// value, in one pass over the generators. Assumes nothing.
+// Changes of state: what keys, pedals and a change of kind do to notes (R5.2, R6.2, R6.7, R6.12, R6.16), by value, for
+// every value, in one pass over the generators. Assumes nothing.
 ghost use mathlib.Core.Path.{_≡_};
 ghost use lib.ListN.{getD};
 ghost use Rattle.loops.specs.Cases.{if_then_else_};
@@ -13,7 +13,7 @@ use generators::Generators;
 pub enum Change {
     // A new note of this channel and key: the busy generators of the key are released.
     ReleaseNote(u8, u8),
-    // All of this channel, pedal or not: its busy generators are released. No rule asks for it yet.
+    // The channel becomes one of another kind: its busy generators are released, pedal or not.
     ReleaseChannel(u8),
     // The key came up, with the pedal down or not: pedal, channel, key.
     NoteOff(bool, u8, u8),

@@ -1,4 +1,4 @@
-// The commands G, M, S, T, W and C, which ask the device and change nothing, and L with one number, which asks for a
+// The commands G, M, S, D, T, W and C, which ask the device and change nothing, and L with one number, which asks for a
 // channel's gains. Assumes nothing.
 use crate::answers::put_malformed;
 use crate::answers::put_refused;
@@ -52,6 +52,13 @@ fn put_share(page: &mut [u8], at: usize, a: ShareAnswer) -> usize {
         }
         ShareAnswer::NotAChannel => put_refused(page, at, 14),
     }
+}
+
+fn put_rhythm(page: &mut [u8], at: usize, rhythm: bool) -> usize {
+    if rhythm {
+        return put(page, at, b"rhythm\n");
+    }
+    put(page, at, b"melody\n")
 }
 
 // A channel's share among those of all.
@@ -121,12 +128,18 @@ fn put_bend(page: &mut [u8], at: usize, x: Channel) -> usize {
     put_field(page, d, x.sensitivity)
 }
 
+fn put_bank(page: &mut [u8], at: usize, x: Channel) -> usize {
+    let a = put_field(page, at, x.bank_msb);
+    put_field(page, a, x.bank_lsb)
+}
+
 fn put_numbers(page: &mut [u8], at: usize, x: Channel) -> usize {
     let a = put(page, at, b"numbers");
     let b = put_field(page, a, x.program);
     let c = put_controllers(page, b, x);
     let d = put_bend(page, c, x);
-    put(page, d, b"\n")
+    let e = put_bank(page, d, x);
+    put(page, e, b"\n")
 }
 
 // The answer to a command with one number that asks for a channel's record.
@@ -147,6 +160,9 @@ fn put_asked(page: &mut [u8], at: usize, d: Device, command: u8, n: u8) -> usize
     }
     if command == b'S' {
         return put_share(page, at, queries::share_query(d, n));
+    }
+    if command == b'D' {
+        return put_rhythm(page, at, queries::rhythm_query(d, n));
     }
     if ((command == b'C') | (command == b'L')) & (1 <= n) & (n <= 16) {
         let i = d.instrument;

@@ -11,7 +11,8 @@
 //     S cc        asks for the share of channel cc
 //     T           the shares of channels 1 to 16 in one line, - for a masked channel
 //     W           who plays: a line as that of G for each generator that is not idle
-//     C cc        the eleven numbers of channel cc, in the order of R1.8
+//     D cc        asks whether channel cc is a rhythm channel
+//     C cc        the thirteen numbers of channel cc, in the order of R1.8
 //     K kk ss mm ll  the octave and entry of key kk with sensitivity ss and bend 128 × mm + ll
 //     L ee vv pp  the gains left and right with expression ee, volume vv and pan pp, to the nearest hundred-thousandth
 //     L cc        the same, by the numbers of channel cc

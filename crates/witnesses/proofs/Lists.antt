@@ -1,9 +1,10 @@
 -- The claims bite, in short lists: a drum is served, an idle generator is given, and so is one whose note a mode
--- message has ended; a theft that is allowed; a note on the pedal that goes before an older key; and runs that bring a
--- drum along. What stood there before is computed from the definitions; what becomes of the last note `demand-3` alone
--- says, and `who-loses` who pays for it.
+-- message, a drum of its group on channel 11 or a change of that channel's kind has ended; a theft that is allowed; a
+-- note on the pedal that goes before an older key; and runs that bring a drum along. What stood there before is computed
+-- from the definitions; what becomes of the last note `demand-3` alone says, `who-loses` who pays for it, and
+-- `rhythm-is-by-book` which channels are rhythm channels.
 -- Assumes nothing.
-use mathlib.Core.Path.{_≡_, refl, ap, _∙_, subst}
+use mathlib.Core.Path.{_≡_, refl, sym, ap, _∙_, subst}
 use mathlib.Core.Bool.{Bool, true, false, false≢true}
 use mathlib.Core.List.{List, [], _∷_, _++_}
 use mathlib.Core.Option.{some}
@@ -25,9 +26,10 @@ use Rattle.allocation.specs.declared.Was.{Was}
 use Rattle.allocation.specs.declared.Was.the-variants.{Stolen}
 use Rattle.allocation.specs.Allocation.{cleared, choice, noteOn}
 use Rattle.instrument.specs.Instrument.{fresh, isRhythm, channelOf, withChannel}
+use Rattle.channels.specs.Channel.{rhythmBy}
 use Rattle.controllers.specs.Controllers.{controlled}
 use Rattle.controllers.specs.Controllers as of-controllers
-use Rattle.other_messages.specs.OtherMessages.{notesAfter, playNoteOff, playControl}
+use Rattle.other_messages.specs.OtherMessages.{notesAfter, playNoteOff, playControl, kindSet, playProgram}
 use Rattle.playing.specs.declared.Answer.{Answer}
 use Rattle.playing.specs.declared.Answer.the-variants.{Note}
 use Rattle.playing.specs.Playing.{playNoteOn, played}
@@ -41,7 +43,7 @@ use Rattle.note_book.specs.Book as of-book
 use Rattle.note_book.specs.Claim.{stolenNote, isLoss, IsFull, isServed, AtNoteOn, after, Both, Live, begin}
 use Rattle.note_book.specs.Age.{byAnswers}
 use Rattle.note_book.specs.WhoLoses.{payer, goes, lossAnswer, Foretold, PedalFirst}
-use Rattle.note_book.proofs.Demand3.{demand-3, who-loses}
+use Rattle.note_book.proofs.Demand3.{demand-3, who-loses, rhythm-is-by-book}
 use Rattle.reports.specs.Reports.{reported}
 use Rattle.note_book.proofs.Witness.{IsGiven, not-lost, key-unstolen, foretold-at, pedal-first-at}
 
@@ -116,6 +118,61 @@ given-behind-126 = go (isLoss (new-mode .book) 1 64 (Live .answer new-mode (Byte
         (Byte 0x90 ∷ Byte 60 ∷ Byte 64 ∷ Byte 0xB0 ∷ Byte 126 ∷ Byte 1 ∷ Byte 0x90 ∷ Byte 64 ∷ Byte 64 ∷ [])
         .fair .1 .1 .1 .1 .1 .1 .1 .1 .0 e 0 1-of-1 .0))
     go false e = not-lost (new-mode .book) 1 64 (Live .answer new-mode (Byte 64)) refl e
+
+-- ---- P 1, and channel 11 is made a rhythm channel: bank MSB 120, and a program change
+
+abbrev pub drum-kit : List Event
+drum-kit = Byte 0xBA ∷ Byte 0 ∷ Byte 120 ∷ Byte 0xCA ∷ Byte 0 ∷ []
+
+-- the record has it as one, since the book has
+pub eleven-is-rhythm : isRhythm (after Live (begin 1 0) drum-kit .device .instrument) 11 ≡ true
+unfolding begun stored oneDataByte completed dataByte opened ended statusByte split decode rhythmBy
+    started heard byteTaken taken keepMessage keep after
+eleven-is-rhythm = rhythm-is-by-book 1 0 drum-kit 11
+
+-- its open hi-hat has the only generator. The closed one is given that, though channel 11 has share 0: the claim of
+-- fairness knows that it ends the open one
+abbrev hi-hat : Both
+hi-hat = after Live (begin 1 0) (drum-kit ++ (Byte 0x9A ∷ Byte 46 ∷ Byte 64 ∷ Byte 42 ∷ []))
+
+pub hi-hat-given : IsGiven (Live .answer hi-hat (Byte 64))
+unfolding upTo total filterBy firstOf padded begun stored oneDataByte completed dataByte opened ended statusByte
+    split decode tableOf startTable sharesFrom lookup shareOf groupOf excludes agesOf newest assigned silent
+    changes stateAfter changed isAmong leaves silenced lowestIdle cleared choice noteOn fresh isRhythm playNoteOn
+    played playControl notesAfter controlled of-controllers.stored rhythmBy channelOf withChannel kindSet playProgram
+    started heard byteTaken taken keepMessage keep after
+hi-hat-given = go (isLoss (hi-hat .book) 11 42 (Live .answer hi-hat (Byte 64))) refl
+  where
+    go : (l : Bool) → isLoss (hi-hat .book) 11 42 (Live .answer hi-hat (Byte 64)) ≡ l
+        → IsGiven (Live .answer hi-hat (Byte 64))
+    go true e =
+        absurd (false≢true (sym (demand-3 1 0
+        (drum-kit ++ (Byte 0x9A ∷ Byte 46 ∷ Byte 64 ∷ Byte 42 ∷ Byte 64 ∷ []))
+        .fair .1 .1 .1 .1 .1 .1 .1 .1 .1 .0 e 0 1-of-1 .1)))
+    go false e = not-lost (hi-hat .book) 11 42 (Live .answer hi-hat (Byte 64)) refl e
+
+-- a note of its melody time leaves the book with the change of kind, so that the next note, of channel 1, is given the
+-- generator
+abbrev behind-the-change : Both
+behind-the-change =
+    after Live (begin 1 0) (Byte 0x9A ∷ Byte 60 ∷ Byte 64 ∷ (drum-kit ++ (Byte 0x90 ∷ Byte 64 ∷ [])))
+
+pub given-behind-a-change-of-kind : IsGiven (Live .answer behind-the-change (Byte 64))
+unfolding upTo total filterBy firstOf padded begun stored oneDataByte completed dataByte opened ended statusByte
+    split decode tableOf startTable sharesFrom lookup shareOf groupOf excludes agesOf newest assigned silent
+    changes stateAfter changed isAmong leaves silenced lowestIdle cleared choice noteOn fresh isRhythm playNoteOn
+    played playControl notesAfter controlled of-controllers.stored rhythmBy channelOf withChannel kindSet playProgram
+    started heard byteTaken taken keepMessage keep after
+given-behind-a-change-of-kind =
+    go (isLoss (behind-the-change .book) 1 64 (Live .answer behind-the-change (Byte 64))) refl
+  where
+    go : (l : Bool) → isLoss (behind-the-change .book) 1 64 (Live .answer behind-the-change (Byte 64)) ≡ l
+        → IsGiven (Live .answer behind-the-change (Byte 64))
+    go true e =
+        absurd (false≢true (demand-3 1 0
+        (Byte 0x9A ∷ Byte 60 ∷ Byte 64 ∷ (drum-kit ++ (Byte 0x90 ∷ Byte 64 ∷ Byte 64 ∷ [])))
+        .fair .1 .1 .1 .1 .1 .1 .1 .1 .1 .1 .0 e 0 1-of-1 .0))
+    go false e = not-lost (behind-the-change .book) 1 64 (Live .answer behind-the-change (Byte 64)) refl e
 
 -- ---- P 1, a note held on channel 1: a drum steals it
 

@@ -20,11 +20,11 @@ returns c = rw (c .match .keys1)
 
 returns-2 : tie.Need-returns-2
 unfolding stored
-returns-2 c = rw (c .before .match .keys2, c .data-entry .ensures)
+returns-2 c = rw (c .match .keys2)
 
 returns-3 : tie.Need-returns-3
 unfolding stored
-returns-3 c = rw (c .match .keys3)
+returns-3 c = rw (c .before .match .keys3, c .data-entry .ensures)
 
 returns-4 : tie.Need-returns-4
 unfolding stored
@@ -46,6 +46,14 @@ returns-8 : tie.Need-returns-8
 unfolding stored
 returns-8 c = rw (c .match .keys8)
 
+returns-9 : tie.Need-returns-9
+unfolding stored
+returns-9 c = rw (c .match .keys9)
+
+returns-10 : tie.Need-returns-10
+unfolding stored
+returns-10 c = rw (c .match .keys10)
+
 -- a number that is not stored
 none : (c : tie.At-match-rest) → (c .before .args .n ≡ 98 → ⊥) → (c .before .args .n ≡ 99 → ⊥)
     → c .before .args .channel ≡ stored (c .before .args .channel) (c .before .args .n) (c .before .args .v)
@@ -53,6 +61,8 @@ unfolding stored
 none c f g =
     let r = c .match .rest in
     simp (
+      ne-eqb _ _ (r .0 .0 .0 .0 .0 .0 .0 .0 .0 .1),
+      ne-eqb _ _ (r .0 .0 .0 .0 .0 .0 .0 .0 .1),
       ne-eqb _ _ (r .0 .0 .0 .0 .0 .0 .0 .1),
       ne-eqb _ _ (r .0 .0 .0 .0 .0 .0 .1),
       ne-eqb _ _ (r .0 .0 .0 .0 .0 .1),
@@ -65,8 +75,8 @@ none c f g =
       ne-eqb _ _ g,
     )
 
-returns-9 : tie.Need-returns-9
-returns-9 c = none (c .before) (λ e. omega arith) (λ e. omega arith)
+returns-11 : tie.Need-returns-11
+returns-11 c = none (c .before) (λ e. omega arith) (λ e. omega arith)
 
 either : (n : ℕ) → 98 ≤ n → n < 100 → (n ≡ 98) ⊎ (n ≡ 99)
 either n lo hi = go (ltb n 99) refl
@@ -75,12 +85,12 @@ either n lo hi = go (ltb n 99) refl
     go true t = let h = ltb-true n 99 t in inl (omega arith)
     go false t = let h = ltb-false n 99 t in inr (omega arith)
 
-returns-10 : tie.Need-returns-10
+returns-12 : tie.Need-returns-12
 unfolding stored
-returns-10 c = ⊎-elim (λ e. rw e) (λ e. rw e) (either _ (c .before .if1 .left) (c .if2 .taken))
+returns-12 c = ⊎-elim (λ e. rw e) (λ e. rw e) (either _ (c .before .if1 .left) (c .if2 .taken))
 
-returns-11 : tie.Need-returns-11
-returns-11 c = none (c .before .before) (λ e. omega arith) (λ e. omega arith)
+returns-13 : tie.Need-returns-13
+returns-13 c = none (c .before .before) (λ e. omega arith) (λ e. omega arith)
 
 pub store-spec : {M : Type 1} → statement M
 store-spec =
@@ -97,4 +107,6 @@ store-spec =
     returns-8
     returns-9
     returns-10
-    returns-11)
+    returns-11
+    returns-12
+    returns-13)

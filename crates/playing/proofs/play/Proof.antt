@@ -19,22 +19,16 @@ returns-3 c = simp (c .before .before .before .m3 .given .1, c .new2 .ensures, c
 
 returns-4 : tie.Need-returns-4
 unfolding played
-returns-4 c = simp (
-  c .before .before .before .before .before .m4 .given .1,
-  c .new3 .ensures,
-  c .before .with-channel .ensures,
-  c .before .before .program .ensures,
-  c .before .before .before .channel-of .ensures,
-)
+returns-4 c = simp (c .before .before .before .m4 .given .1, c .new3 .ensures, c .before .program .ensures)
 
 returns-5 : tie.Need-returns-5
 unfolding played
 returns-5 c = simp (
   c .before .before .before .before .before .m5 .given .1,
   c .new4 .ensures,
-  c .before .with-channel2 .ensures,
+  c .before .with-channel .ensures,
   c .before .before .bend .ensures,
-  c .before .before .before .channel-of2 .ensures,
+  c .before .before .before .channel-of .ensures,
 )
 
 returns-6 : tie.Need-returns-6
@@ -54,8 +48,6 @@ play-spec =
     (λ c κs. search needs)
     (λ c κs. search needs)
     (λ c. search needs)
-    (λ c κs. search needs)
-    (λ c κs. search needs)
     (λ c κs. search needs)
     (λ c κs. search needs)
     (λ c. search needs)
