@@ -112,7 +112,7 @@ pub bounds-reached : channelOf (after (started 65 0 .device) loudest .instrument
     }
 unfolding begun stored oneDataByte completed dataByte opened ended statusByte split decode of-channel.fresh
     of-controllers.dataEntry of-controllers.stored of-controllers.controlled silent fresh channelAt replaced
-    channelOf withChannel notesAfter playControl played reported started heard byteTaken reportTaken taken after
+    channelOf withChannel notesAfter playControl playProgram played reported started heard byteTaken reportTaken taken after
 bounds-reached = refl
 
 -- and the kind of rhythm, by bank MSB 120 and a program change on channel 11

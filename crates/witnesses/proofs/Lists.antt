@@ -25,8 +25,9 @@ use Rattle.stealing.specs.Stealing.{overShare, stealFrom, victim}
 use Rattle.allocation.specs.declared.Was.{Was}
 use Rattle.allocation.specs.declared.Was.the-variants.{Stolen}
 use Rattle.allocation.specs.Allocation.{cleared, choice, noteOn}
-use Rattle.instrument.specs.Instrument.{fresh, isRhythm, channelOf, withChannel}
+use Rattle.instrument.specs.Instrument.{fresh, isRhythm, channelAt, replaced, channelOf, withChannel}
 use Rattle.channels.specs.Channel.{rhythmBy}
+use Rattle.channels.specs.Channel as of-channel
 use Rattle.controllers.specs.Controllers.{controlled}
 use Rattle.controllers.specs.Controllers as of-controllers
 use Rattle.other_messages.specs.OtherMessages.{notesAfter, playNoteOff, playControl, kindSet, playProgram}
@@ -139,7 +140,8 @@ pub hi-hat-given : IsGiven (Live .answer hi-hat (Byte 64))
 unfolding upTo total filterBy firstOf padded begun stored oneDataByte completed dataByte opened ended statusByte
     split decode tableOf startTable sharesFrom lookup shareOf groupOf excludes agesOf newest assigned silent
     changes stateAfter changed isAmong leaves silenced lowestIdle cleared choice noteOn fresh isRhythm playNoteOn
-    played playControl notesAfter controlled of-controllers.stored rhythmBy channelOf withChannel kindSet playProgram
+    played playControl notesAfter controlled of-controllers.stored of-channel.fresh rhythmBy channelAt replaced channelOf
+    withChannel kindSet playProgram
     started heard byteTaken taken keepMessage keep after
 hi-hat-given = go (isLoss (hi-hat .book) 11 42 (Live .answer hi-hat (Byte 64))) refl
   where
@@ -161,7 +163,8 @@ pub given-behind-a-change-of-kind : IsGiven (Live .answer behind-the-change (Byt
 unfolding upTo total filterBy firstOf padded begun stored oneDataByte completed dataByte opened ended statusByte
     split decode tableOf startTable sharesFrom lookup shareOf groupOf excludes agesOf newest assigned silent
     changes stateAfter changed isAmong leaves silenced lowestIdle cleared choice noteOn fresh isRhythm playNoteOn
-    played playControl notesAfter controlled of-controllers.stored rhythmBy channelOf withChannel kindSet playProgram
+    played playControl notesAfter controlled of-controllers.stored of-channel.fresh rhythmBy channelAt replaced channelOf
+    withChannel kindSet playProgram
     started heard byteTaken taken keepMessage keep after
 given-behind-a-change-of-kind =
     go (isLoss (behind-the-change .book) 1 64 (Live .answer behind-the-change (Byte 64))) refl
