@@ -3,7 +3,7 @@
 -- Assumes nothing.
 use Rattle.queries.specs.Queries.{maskQuery}
 use Rattle.numbers.specs.Numbers.{maskNumbers}
-use Rattle.muntinorris.proofs.Copied.{Query, copied}
+use Rattle.muntinorris.proofs.Copied.{declared, Query, copied}
 use Rattle.numbers.proofs.MaskNumbers as O
 use Rattle.numbers.proofs.MaskNumbers.Laws as O′
 use Rattle.numbers.proofs.mask_numbers.Symbol as query-def
@@ -15,9 +15,7 @@ use Rattle.muntinorris.proofs.muntinorris_mask.Code as code
 abbrev query : Query
 query = record {
   name = query-def.name;
-  out = O.the-type;
-  laws = O′.the-laws;
-  plain = O′.the-plain;
+  out = declared O.the-type O′.the-laws O′.the-plain;
   answer = λ d n. maskNumbers (maskQuery d n);
 }
 
