@@ -1,4 +1,4 @@
--- R10.13: the rhythm channels of the record are those of the book.
+-- Which channels are rhythm channels, by the record and by the book.
 use Prim.Native.Nat.{ℕ}
 use mathlib.Core.Path.{_≡_}
 use mathlib.Core.List.{List}
@@ -6,8 +6,8 @@ use Rattle.instrument.specs.Instrument as of-instrument
 use Rattle.note_book.specs.Book.{isRhythm}
 use Rattle.note_book.specs.Claim.{System, after}
 
--- behind a list; the list is any, so that it is so after every event
 module _ (S : System) where
+  -- R10.13: the same behind a list; the list is any, so that it is so at the start and after every event
   abbrev pub SameRhythm : S .State → List (S .Event) → Type 0
   SameRhythm s l =
       (c : ℕ) → of-instrument.isRhythm (S .instrument (after S s l)) c ≡ isRhythm (S .book (after S s l)) c
