@@ -288,6 +288,9 @@ fn rubbish(seed: u64) -> Result<(), String> {
     println!(
         "{RECORDS} records and as many logs full of rubbish: every call returned and wrote nothing beside them"
     );
+    let queried = library::rhythm_of_rubbish(&mut Random::new(seed), RECORDS);
+    queried.map_err(|found| format!("rhythm query: a record full of rubbish: {found}"))?;
+    println!("{RECORDS} such records asked for their rhythm channels, each for all 256 numbers");
     let survived = library::survive_pages(&mut Random::new(seed), RECORDS);
     survived.map_err(|found| format!("the page of a record full of rubbish: {found}"))?;
     println!("{RECORDS} calls for pages of such records: 17 lines or number 18, and nothing else written");
