@@ -283,7 +283,7 @@ fn justified(
     let needed = had
         .notes()
         .iter()
-        .all(|note| note.is_some_and(|note| !Book::ended_by(channel, key, note)));
+        .all(|note| note.is_some_and(|note| !had.ended_by(channel, key, note)));
     if needed {
         return Ok(());
     }

@@ -13,6 +13,8 @@ mod channel_gains;
 mod claims;
 mod compare;
 mod drums;
+mod eleven;
+mod eleven_tally;
 mod gains;
 mod gains_self_test;
 mod hardest_song;

@@ -1,6 +1,6 @@
 //! Shows that the comparison can fail: deliberately wrong implementations and books must be found.
 
-use crate::book::{Slip, SLIPS, WRONG_BOUNDS, WRONG_THEFTS};
+use crate::book::{Slip, SLIPS, SLIPS_OF_KINDS, WRONG_BOUNDS, WRONG_THEFTS};
 use crate::compare::{Comparison, Failure};
 use crate::record::Given;
 use crate::{
@@ -174,9 +174,10 @@ fn wrong_devices(seed: u64) -> Vec<String> {
 
 /// Books that forget a rule, and claims in a wrong form, beside right devices.
 fn wrong_books(seed: u64) -> Vec<String> {
-    let books = SLIPS.map(|slip| (slip, "demand 3"));
+    let books = SLIPS.into_iter().chain(SLIPS_OF_KINDS);
+    let books = books.map(|slip| (slip, "demand 3"));
     let bounds = WRONG_BOUNDS.map(|slip| (slip, "R13.2"));
-    let wrong = books.into_iter().chain(bounds).chain(WRONG_THEFTS);
+    let wrong = books.chain(bounds).chain(WRONG_THEFTS);
     let expected = |(slip, claim)| {
         let name = format!("book with {slip:?} wrong");
         expect(&name, claim, wrong_book(slip, seed))
