@@ -104,6 +104,108 @@ const SHARED_MODE: [&str; 27] = [
     "MonoKeepsNewest",
 ];
 
+/// Such mistakes about the bank and the kind of channel 11, found by demand 3 alone: without a look at rhythm queries,
+/// or at what a theft takes.
+const SHARED_KINDS: [&str; 85] = [
+    "ElevenStartsInRhythmBank",
+    "EveryChannelStartsInRhythmBank",
+    "ElevenStartsAsRhythm",
+    "SystemOnKeepsKind",
+    "SystemOnKeepsBanks",
+    "BankMsbNotStored",
+    "BankBytesSwapped",
+    "OtherBanksDropped",
+    "ResetControllersResetsBank",
+    "ResetControllersResetsBankMsb",
+    "KindByBankAlone",
+    "NotesReleasedByBank",
+    "AnyChannelsBankTakenForElevens",
+    "MaskedBanksDropped",
+    "RhythmWithoutEleven",
+    "ElevenAlwaysRhythm",
+    "ElevenRhythmByItsBank",
+    "TenMelodyWhileElevenIsRhythm",
+    "TenMelodyInMelodyBank",
+    "TenMadeMelody",
+    "AnyChannelMadeRhythm",
+    "TwelveMadeRhythmToo",
+    "MaskedProgramsDropped",
+    "EveryProgramOfElevenReleases",
+    "EveryProgramOfTenReleases",
+    "EveryProgramReleases",
+    "KindByProgramOfAnyChannel",
+    "KindByProgramOfTen",
+    "KindByAnyChannelsBankAndProgram",
+    "KindByBankOfTen",
+    "KindByBankOfOne",
+    "KindByBankOfTwelve",
+    "KindByBankLsb",
+    "KindByProgram",
+    "BanksSwapped",
+    "OtherBanksMakeMelody",
+    "OtherBanksMakeRhythm",
+    "Bank0MakesMelody",
+    "Bank127MakesRhythm",
+    "BanksBelowMakeRhythmAboveMelody",
+    "KindNeedsLsb0",
+    "KindNeedsProgram0",
+    "TwelveTakenForEleven",
+    "MaskedElevenKeepsKind",
+    "BusyElevenKeepsKind",
+    "RhythmForGood",
+    "BankUsedUpByProgram",
+    "RhythmTurnsToMelody",
+    "MelodyBankIgnored",
+    "NotesReleasedWithoutChangeOfKind",
+    "ChangeOfKindLiftsPedal",
+    "ChangeOfKindResetsControllers",
+    "ChangeOfKindResetsChannel",
+    "NotesKeptAtChangeOfKind",
+    "PedalNotesKeptAtChangeOfKind",
+    "KeysDownKeptAtChangeOfKind",
+    "KeysUpAtChangeOfKind",
+    "NotesKeptWhenMadeRhythm",
+    "NotesKeptWhenMadeMelody",
+    "ChangeOfKindReleasesTenToo",
+    "ChangeOfKindReleasesAll",
+    "ChangeOfKindReleasesTenInstead",
+    "GroupGoesOnOnEleven",
+    "GroupOnMelodyEleven",
+    "GroupByRhythmBank",
+    "GroupOnEveryChannel",
+    "GroupsAcrossChannels",
+    "GroupsOfTenReachEleven",
+    "GroupsOfElevenReachTen",
+    "GroupsReachMelodyEleven",
+    "GroupsOfTenAlone",
+    "SameDrumOfElevenGoesOn",
+    "NoteOffEndsDrumsOfEleven",
+    "NoteOffIgnoredOnMelodyEleven",
+    "NoteOffIgnoredInRhythmBank",
+    "PedalSustainsDrumsOfEleven",
+    "VelocityZeroEndsDrumsOfEleven",
+    "HoldOfElevenHonoured",
+    "HoldOfMelodyElevenIgnored",
+    "HoldIgnoredInRhythmBank",
+    "AllNotesOffHonoursHoldOfEleven",
+    "ModeMessagesHonourHoldOfEleven",
+    "AllNotesOffSparesDrumsOfEleven",
+    "ModeMessagesSpareDrumsOfEleven",
+    "AllNotesOffOnTenEndsElevensToo",
+];
+
+/// Such mistakes of the rhythm query, found by the book's kind.
+const SHARED_QUERIES: [(&str, &str); 7] = [
+    ("RhythmQueryOnTheWire", BOOK_KNOWS),
+    ("RhythmQueryOfAnyNumber", BOOK_KNOWS),
+    ("RhythmQueryWithoutEleven", BOOK_KNOWS),
+    ("RhythmQueryOfElevenAlone", BOOK_KNOWS),
+    ("RhythmQueryByBank", BOOK_KNOWS),
+    ("RhythmQueryOfUnmaskedAlone", BOOK_KNOWS),
+    ("RhythmQueryOfNoneIsRhythm", BOOK_KNOWS),
+];
+const BOOK_KNOWS: &str = "rhythm query: ";
+
 /// A wrong variant: by a fault of paper's rules, by a slip beside them, or by both.
 #[derive(Clone, Copy)]
 pub struct Variant<Slip> {
@@ -156,15 +258,18 @@ fn wrong_devices(seed: u64) -> Vec<String> {
     if let (_, Some(failure)) = right.run(seed, WITHIN) {
         complaints.push(format!("no mistake at all: {failure}"));
     }
-    let devices = variants(wrong::DEVICE, &wrong_device::GAINS_SLIPS);
+    let faults = [wrong::DEVICE, wrong::SECOND_DRUMS].concat();
+    let devices = variants(&faults, &wrong_device::GAINS_SLIPS);
     for variant in &devices {
         complaints.extend(expect(variant.name, "", one_side(variant, seed)));
     }
     let shared_mode = SHARED_MODE.map(|name| (name, "the book has"));
-    let shared = SHARED.into_iter().chain(shared_mode);
+    let shared_kinds = SHARED_KINDS.map(|name| (name, "demand 3"));
+    let shared = SHARED.into_iter().chain(shared_mode).chain(shared_kinds);
     let shared = shared.map(|row| (row, Some(Slip::Thefts)));
-    let shared_thefts = SHARED_THEFTS.map(|row| (row, None));
-    for ((name, claim), slip) in shared.chain(shared_thefts) {
+    let without_slip = SHARED_THEFTS.into_iter().chain(SHARED_QUERIES);
+    let without_slip = without_slip.map(|row| (row, None));
+    for ((name, claim), slip) in shared.chain(without_slip) {
         let variant = devices.iter().find(|variant| variant.name == name);
         let found = variant.and_then(|variant| both_sides(variant, slip, seed));
         complaints.extend(expect(&format!("{name} on both sides"), claim, found));
