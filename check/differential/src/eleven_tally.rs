@@ -122,12 +122,8 @@ impl ElevenTally {
 
     /// An event, its answer, and the record before it and behind.
     pub fn event(&mut self, event: Event, answer: Answer, before: &Record, after: &Record) {
-        if let Answer::Note { generator, .. } = answer {
-            self.note(generator, answer, before);
-        }
-        if let Answer::NoteRefused { number, .. } = answer {
-            let refused = number == Number::NoneToSteal && before.second_drums;
-            self.meet(Met::DrumRefused, refused && answer_channel(answer) == Some(11));
+        if before.second_drums {
+            self.losses(answer, before);
         }
         match (event, completed(event, before)) {
             (_, Some((status @ 0xC0..=0xCF, ..))) => self.program(status & 0x0F, before, after),
@@ -144,12 +140,26 @@ impl ElevenTally {
         }
     }
 
-    fn note(&mut self, generator: u8, answer: Answer, before: &Record) {
-        let stolen = matches!(answer, Answer::Note { was: Was::Stolen, .. });
-        let was = before.generators[usize::from(generator)].channel;
-        let drums = stolen && before.second_drums;
-        self.meet(Met::DrumStolen, drums && was == 11);
-        self.meet(Met::DrumSteals, drums && answer_channel(answer) == Some(11));
+    /// Thefts and number 11 while channel 11 is rhythm.
+    fn losses(&mut self, answer: Answer, before: &Record) {
+        match answer {
+            Answer::Note {
+                channel,
+                generator,
+                was: Was::Stolen,
+                ..
+            } => {
+                let loser = before.generators[usize::from(generator)].channel;
+                self.meet(Met::DrumStolen, loser == 11);
+                self.meet(Met::DrumSteals, channel == 11);
+            }
+            Answer::NoteRefused {
+                number: Number::NoneToSteal,
+                channel,
+                ..
+            } => self.meet(Met::DrumRefused, channel == 11),
+            _ => {}
+        }
     }
 
     fn program(&mut self, channel: u8, before: &Record, after: &Record) {
@@ -183,7 +193,7 @@ impl ElevenTally {
         let notes = |which: fn(GeneratorView) -> bool| has(before, SECOND_DRUM_CHANNEL, which);
         let mut listed = before.entries.as_slice().iter();
         let entry = listed.find(|entry| entry.channel == SECOND_DRUM_CHANNEL);
-        let masked = entry.map_or(true, |entry| entry.value > before.polyphony);
+        let masked = entry.is_none_or(|entry| entry.value > before.polyphony);
         self.meet(Met::RhythmEndsHeld, rhythm && notes(is_held));
         let sustained = notes(|view| view.state == State::Sustained);
         self.meet(Met::RhythmEndsPedalNotes, rhythm && sustained);
@@ -197,13 +207,13 @@ impl ElevenTally {
     }
 
     fn note_off(&mut self, key: u8, before: &Record) {
-        let [rhythm, bank] = [u8::from(before.second_drums), eleven(before)[BANK_MSB]];
+        let (rhythm, bank) = (before.second_drums, eleven(before)[BANK_MSB]);
         let down = eleven(before)[HOLD] >= 64;
         let held = has(before, SECOND_DRUM_CHANNEL, |view| is_held(view) && view.key == key);
-        self.meet(Met::NoteOffPedalUp, held && rhythm == 1 && !down);
-        self.meet(Met::NoteOffPedalDown, held && rhythm == 1 && down);
-        self.meet(Met::NoteOffInRhythmBank, held && rhythm == 0 && bank == 120);
-        self.meet(Met::NoteOffInMelodyBank, held && rhythm == 1 && bank == 121);
+        self.meet(Met::NoteOffPedalUp, held && rhythm && !down);
+        self.meet(Met::NoteOffPedalDown, held && rhythm && down);
+        self.meet(Met::NoteOffInRhythmBank, held && !rhythm && bank == 120);
+        self.meet(Met::NoteOffInMelodyBank, held && rhythm && bank == 121);
     }
 
     /// A note of channel 10 or 11 that was not refused.
@@ -262,12 +272,4 @@ impl ElevenTally {
 
 fn is_note(answer: Answer) -> bool {
     matches!(answer, Answer::Note { .. })
-}
-
-/// The channel, from 1, of a note or a refused one.
-fn answer_channel(answer: Answer) -> Option<u8> {
-    match answer {
-        Answer::Note { channel, .. } | Answer::NoteRefused { channel, .. } => Some(channel),
-        _ => None,
-    }
 }

@@ -106,7 +106,7 @@ const SHARED_MODE: [&str; 27] = [
 
 /// Such mistakes about the bank and the kind of channel 11, found by demand 3 alone: without a look at rhythm queries,
 /// or at what a theft takes.
-const SHARED_KINDS: [&str; 85] = [
+const SHARED_KINDS: [&str; 91] = [
     "ElevenStartsInRhythmBank",
     "EveryChannelStartsInRhythmBank",
     "ElevenStartsAsRhythm",
@@ -192,6 +192,12 @@ const SHARED_KINDS: [&str; 85] = [
     "AllNotesOffSparesDrumsOfEleven",
     "ModeMessagesSpareDrumsOfEleven",
     "AllNotesOffOnTenEndsElevensToo",
+    "ResetControllersMakesMelody",
+    "ResetControllersChangesKind",
+    "NewTableMakesMelody",
+    "NewTableChangesKind",
+    "NewTableResetsBanks",
+    "MaskedDrumsOfElevenGoOn",
 ];
 
 /// Such mistakes of the rhythm query, found by the book's kind.
