@@ -174,7 +174,11 @@ fn open_mip(pairs: impl IntoIterator<Item = (u8, u8)>) -> Vec<u8> {
 /// Whole notes, and last bytes that have the most to do.
 fn messages() -> Vec<Case> {
     let last = |name, setup: &[u8], byte| case(name, setup, &[byte], Target::SingleByte);
-    let (full, drums, theft) = (all_of_channel_1(), drum_roll(DRUM_CHANNEL, 44), before_theft());
+    let (full, drums, theft) = (
+        all_of_channel_1(),
+        drum_roll(DRUM_CHANNEL, 44),
+        before_theft(),
+    );
     let mut cases = vec![
         case(
             "theft, three bytes, fresh table",

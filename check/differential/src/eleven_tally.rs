@@ -186,7 +186,10 @@ impl ElevenTally {
         self.meet(Met::OtherBankInMelody, stays && !is && other);
         self.meet(Met::OtherBankInRhythm, stays && is && other);
         let lsb = eleven(before)[BANK_LSB];
-        self.meet(Met::RhythmInLsbAlone, stays && !is && bank == 121 && lsb == 120);
+        self.meet(
+            Met::RhythmInLsbAlone,
+            stays && !is && bank == 121 && lsb == 120,
+        );
     }
 
     fn change(&mut self, before: &Record, rhythm: bool) {
@@ -209,7 +212,9 @@ impl ElevenTally {
     fn note_off(&mut self, key: u8, before: &Record) {
         let (rhythm, bank) = (before.second_drums, eleven(before)[BANK_MSB]);
         let down = eleven(before)[HOLD] >= 64;
-        let held = has(before, SECOND_DRUM_CHANNEL, |view| is_held(view) && view.key == key);
+        let held = has(before, SECOND_DRUM_CHANNEL, |view| {
+            is_held(view) && view.key == key
+        });
         self.meet(Met::NoteOffPedalUp, held && rhythm && !down);
         self.meet(Met::NoteOffPedalDown, held && rhythm && down);
         self.meet(Met::NoteOffInRhythmBank, held && !rhythm && bank == 120);
@@ -266,7 +271,10 @@ impl ElevenTally {
         let (was, is) = (before.second_drums, after.second_drums);
         self.meet(Met::SystemOnInRhythm, was && !is);
         let drums = |record| has(record, SECOND_DRUM_CHANNEL, is_held);
-        self.meet(Met::MaskEndsDrums, was && is && drums(before) && !drums(after));
+        self.meet(
+            Met::MaskEndsDrums,
+            was && is && drums(before) && !drums(after),
+        );
     }
 }
 

@@ -142,7 +142,9 @@ pub fn rhythm_of_rubbish(random: &mut Random, records: usize) -> Result<(), Stri
             _ => random.pick(&[0, 1, 1, 2, 255]),
         };
         lent.device.instrument.kind = kind;
-        let found: Vec<u8> = (0..=255).map(|channel| lent.device.rhythm(channel)).collect();
+        let found: Vec<u8> = (0..=255)
+            .map(|channel| lent.device.rhythm(channel))
+            .collect();
         let expected = |channel: u8| u8::from(channel == 10 || channel == 11 && kind == 1);
         if let Some(channel) = (0..=255).find(|&c| found[usize::from(c)] != expected(c)) {
             let raw = found[usize::from(channel)];

@@ -62,6 +62,8 @@ const POLYPHONIES: [u8; 10] = [1, 2, 3, 4, 8, 16, 24, 32, 63, 64];
 const TURN: u64 = 10;
 /// From 2 on a staged theft has all that it needs; 1 is there for the edge.
 const STAGED_POLYPHONIES: [u8; 9] = [4, 3, 64, 8, 2, 63, 16, 1, 24];
+/// Mostly with room for drums of both channels.
+const DRUM_POLYPHONIES: [u8; 8] = [8, 4, 16, 64, 3, 24, 1, 32];
 const REFUSED_STARTS: [(u8, u8); 7] = [
     (0, 0),
     (65, 7),
@@ -85,6 +87,10 @@ impl List {
         let (polyphony, id) = match number % TURN {
             3 => (
                 STAGED_POLYPHONIES[turn % STAGED_POLYPHONIES.len()],
+                start(random).1,
+            ),
+            7 => (
+                DRUM_POLYPHONIES[turn % DRUM_POLYPHONIES.len()],
                 start(random).1,
             ),
             5 => REFUSED_STARTS[turn % REFUSED_STARTS.len()],

@@ -18,6 +18,7 @@ pub enum Phrase {
     Bank,
     Program,
     SecondDrums,
+    EndOnEleven,
     Report,
     Mip,
     WrongMip,
@@ -101,13 +102,14 @@ pub const FAULTS: Mix = &[
 /// Channels 10 and 11 with few others, and often what tells the kind of 11.
 pub const SECOND_DRUMS: Mix = &[
     (400, Phrase::NoteOn),
-    (150, Phrase::NoteOff),
+    (100, Phrase::NoteOff),
     (60, Phrase::Pedal),
     (20, Phrase::Controller),
-    (60, Phrase::ChannelMode),
-    (50, Phrase::Bank),
-    (50, Phrase::Program),
-    (50, Phrase::SecondDrums),
+    (40, Phrase::ChannelMode),
+    (40, Phrase::Bank),
+    (40, Phrase::Program),
+    (80, Phrase::SecondDrums),
+    (100, Phrase::EndOnEleven),
     (60, Phrase::Report),
     (10, Phrase::Mip),
     (5, Phrase::Reset),
@@ -155,7 +157,7 @@ impl Writer<'_> {
 
     /// One with channels 10 and 11 and two others.
     pub fn of_drums(random: &mut Random, start: (u8, u8)) -> Writer<'_> {
-        let others = [random.below(9) as u8, 11 + random.below(5) as u8];
+        let others = [random.below(9) as u8, random.pick(&[11, 11, 12, 15])];
         let channels = [DRUM_CHANNEL, SECOND_DRUM_CHANNEL, SECOND_DRUM_CHANNEL].into_iter();
         let mut writer = Writer::new(random, start);
         writer.channels = channels.chain(others).collect();
@@ -174,6 +176,7 @@ impl Writer<'_> {
             Phrase::Bank => self.bank(),
             Phrase::Program => self.program(),
             Phrase::SecondDrums => self.second_drums(),
+            Phrase::EndOnEleven => self.end_on_eleven(),
             Phrase::Report => self.report(),
             Phrase::Mip => self.mip(),
             Phrase::WrongMip => self.wrong_mip(),
@@ -339,18 +342,38 @@ impl Writer<'_> {
         self.message(0xC0 | channel, &[program]);
     }
 
-    /// A bank and then a program of channel 11, at times with a note or a pedal of it between.
+    /// A bank and then a program of channel 11, seldom of another, with a note or a pedal of it between; at times the
+    /// bank waits for a program.
     fn second_drums(&mut self) {
-        let (channel, key) = (SECOND_DRUM_CHANNEL, self.random.pick(&DRUM_KEYS));
+        let key = self.random.pick(&DRUM_KEYS);
+        let channel = match self.random.one_in(6) {
+            true => self.channel(),
+            false => SECOND_DRUM_CHANNEL,
+        };
         let msb = self.random.pick(&[120, 120, 120, 121, 121, 0]);
         self.message(0xB0 | channel, &[0, msb]);
         match self.random.below(8) {
             0 => self.message(0x90 | channel, &[key, 64]),
             1 => self.message(0x80 | channel, &[key, 64]),
             2 => self.message(0xB0 | channel, &[64, 127]),
+            3 | 4 => return,
             _ => {}
         }
         self.program_of(channel);
+    }
+
+    /// What ends notes on channel 11, or leaves its drums alone.
+    fn end_on_eleven(&mut self) {
+        let (channel, key) = (SECOND_DRUM_CHANNEL, self.random.pick(&DRUM_KEYS));
+        let (mode, value) = (124 + self.random.below(4) as u8, self.value());
+        match self.random.below(10) {
+            0 => self.message(0xB0 | channel, &[121, 0]),
+            1 | 2 => self.message(0xB0 | channel, &[123, 0]),
+            3 => self.message(0xB0 | channel, &[mode, value]),
+            4 => self.message(0xB0 | channel, &[64, value]),
+            5 => self.message(0x90 | channel, &[key, 0]),
+            _ => self.message(0x80 | channel, &[key, 64]),
+        }
     }
 
     fn report(&mut self) {

@@ -40,7 +40,9 @@ fn bank(device: &Device, channel: usize) -> (u8, u8) {
 
 /// The channels, from 1, that the query calls rhythm channels, of all bytes.
 fn rhythm_channels(device: &Device) -> Vec<u8> {
-    (0..=255).filter(|&channel| device.rhythm(channel)).collect()
+    (0..=255)
+        .filter(|&channel| device.rhythm(channel))
+        .collect()
 }
 
 fn assert_fresh_banks(device: &Device) {
@@ -185,7 +187,12 @@ fn by_running_status_and_with_real_time_bytes_between() {
 
 #[test]
 fn what_is_cut_changes_nothing() {
-    for hex in ["BA 00 CA 00", "BA 00 78 CA", "BA 00 78 CA F7 00", "BA 00 78 CA BA 00"] {
+    for hex in [
+        "BA 00 CA 00",
+        "BA 00 78 CA",
+        "BA 00 78 CA F7 00",
+        "BA 00 78 CA BA 00",
+    ] {
         assert!(!behind(hex).rhythm(11), "{hex}");
     }
 }
@@ -200,7 +207,8 @@ fn no_other_message_changes_the_kind() {
             send(&mut before, [0xB0 | wire, 0, other_bank]);
         }
         for status in (0x80..=0xEF).filter(|&status| status != 0xCA) {
-            for (first, second) in (0..128).flat_map(|first| [0, 64, 120, 121].map(|v| (first, v))) {
+            for (first, second) in (0..128).flat_map(|first| [0, 64, 120, 121].map(|v| (first, v)))
+            {
                 let mut device = before;
                 send(&mut device, [status, first, second]);
                 assert_eq!(device.rhythm(11), rhythm, "{status:02X} {first} {second}");
@@ -228,9 +236,14 @@ fn the_banks_of_other_channels_mean_nothing() {
 #[test]
 fn a_channel_with_bank_120_that_is_not_11_plays_melody() {
     for wire in (0..16).filter(|wire| ![9, 10].contains(wire)) {
-        let mut device = behind(&format!("B{wire:X} 00 78 C{wire:X} 00 9{wire:X} 2A 40 2E 40"));
+        let mut device = behind(&format!(
+            "B{wire:X} 00 78 C{wire:X} 00 9{wire:X} 2A 40 2E 40"
+        ));
         assert_eq!(states(&device), [Held, Held]);
-        feed(&mut device, &format!("8{wire:X} 2A 40 B{wire:X} 40 7F 7B 00"));
+        feed(
+            &mut device,
+            &format!("8{wire:X} 2A 40 B{wire:X} 40 7F 7B 00"),
+        );
         assert_eq!(states(&device), [Releasing, Sustained]);
     }
 }
@@ -288,11 +301,24 @@ fn a_change_back_releases_drums() {
 /// The kind is said once more, or the bank is another one: whatever is busy stays so.
 #[test]
 fn nothing_is_released_where_the_kind_stays() {
-    for hex in ["CA 00", "BA 00 79 CA 00", "BA 00 00 CA 00", "BA 00 7F CA 07", "BA 00 77 CA 00", "CA 00 01 02"] {
+    for hex in [
+        "CA 00",
+        "BA 00 79 CA 00",
+        "BA 00 00 CA 00",
+        "BA 00 7F CA 07",
+        "BA 00 77 CA 00",
+        "CA 00 01 02",
+    ] {
         let device = behind(&format!("{ONE_OF_EACH} {hex}"));
         assert_eq!(states(&device), BEFORE, "{hex}");
     }
-    for hex in ["CA 00", "BA 00 78 CA 00", "BA 00 00 CA 00", "BA 00 7A CA 07", "CA 00 01 02"] {
+    for hex in [
+        "CA 00",
+        "BA 00 78 CA 00",
+        "BA 00 00 CA 00",
+        "BA 00 7A CA 07",
+        "CA 00 01 02",
+    ] {
         let device = rhythm_behind(&format!("9A 24 40 2A 40 {hex}"));
         assert_eq!(states(&device), [Held; 2], "{hex}");
     }
@@ -306,7 +332,14 @@ fn what_a_change_released_is_taken_by_age() {
     feed(&mut device, TO_RHYTHM);
     let played = feed(&mut device, "90 30 40 31 40 32 40");
     let was = Was::Release;
-    assert_eq!(played, [note(1, 0x30, 0, was), note(1, 0x31, 1, was), note(1, 0x32, 2, was)]);
+    assert_eq!(
+        played,
+        [
+            note(1, 0x30, 0, was),
+            note(1, 0x31, 1, was),
+            note(1, 0x32, 2, was)
+        ]
+    );
 }
 
 /// As P8 of document 01, on channel 11.
@@ -314,7 +347,9 @@ fn what_a_change_released_is_taken_by_age() {
 fn groups_hold_on_a_rhythm_channel_11() {
     let groups: [&[u8]; 5] = [&[42, 44, 46], &[71, 72], &[73, 74], &[78, 79], &[80, 81]];
     for (key, other) in (0..128).flat_map(|key| (0..128).map(move |other| (key, other))) {
-        let excludes = groups.iter().any(|group| group.contains(&key) && group.contains(&other));
+        let excludes = groups
+            .iter()
+            .any(|group| group.contains(&key) && group.contains(&other));
         let mut device = rhythm_behind("");
         send(&mut device, [0x9A, other, 64, key, 64]);
         let expected = match key == other {
@@ -360,7 +395,10 @@ fn a_group_makes_room_on_a_full_device() {
     feed(&mut device, &format!("{TO_RHYTHM} 99 24 40 9A 2E 40"));
     assert_eq!(feed(&mut device, "9A 2C 40"), [note(11, 44, 1, Was::Idle)]);
     // Channel 10 has the share, and 11 the lower priority: a group of 10 finds nothing of its own on 11.
-    assert_eq!(feed(&mut device, "99 2A 40"), [note(10, 42, 1, Was::Stolen)]);
+    assert_eq!(
+        feed(&mut device, "99 2A 40"),
+        [note(10, 42, 1, Was::Stolen)]
+    );
     let refused = [refused_note(Number::NoneToSteal, 11, 46)];
     assert_eq!(feed(&mut device, "9A 2E 40"), refused);
 }
@@ -409,9 +447,15 @@ fn the_pedal_of_11_counts_for_melody_alone() {
     assert_eq!(states(&device), [Held]);
     feed(&mut device, "BA 40 00");
     assert_eq!(states(&device), [Held], "nothing is sustained");
-    feed(&mut device, &format!("BA 40 7F {TO_MELODY} 9A 3C 40 8A 3C 40"));
+    feed(
+        &mut device,
+        &format!("BA 40 7F {TO_MELODY} 9A 3C 40 8A 3C 40"),
+    );
     assert_eq!(states(&device), [Releasing, Sustained]);
-    feed(&mut device, &format!("{TO_RHYTHM} {TO_MELODY} 9A 3E 40 8A 3E 40"));
+    feed(
+        &mut device,
+        &format!("{TO_RHYTHM} {TO_MELODY} 9A 3E 40 8A 3E 40"),
+    );
     assert_eq!(states(&device), [Releasing, Releasing, Sustained]);
 }
 
@@ -427,7 +471,11 @@ fn all_notes_off_and_mode_messages_release_drums_of_11_whatever_the_pedal() {
         let before = format!("BA 40 {pedal:02X} 9A 24 40 2A 40 99 24 40 90 24 40");
         let sent = format!("BA {number:02X} {value:02X}");
         let device = rhythm_behind(&format!("{before} {sent}"));
-        assert_eq!(states(&device), [Releasing, Releasing, Held, Held], "{sent}");
+        assert_eq!(
+            states(&device),
+            [Releasing, Releasing, Held, Held],
+            "{sent}"
+        );
         assert_eq!(rhythm_channels(&device), [10, 11]);
         // The same notes as melody are held by the pedal.
         let device = behind(&format!("{before} {sent}"));
@@ -441,7 +489,9 @@ fn all_notes_off_and_mode_messages_release_drums_of_11_whatever_the_pedal() {
 
 #[test]
 fn of_123_other_values_and_122_end_no_drum_of_11() {
-    for sent in ["7B 01", "7B 7F", "7A 00", "79 00", "79 01", "78 01", "40 00"] {
+    for sent in [
+        "7B 01", "7B 7F", "7A 00", "79 00", "79 01", "78 01", "40 00",
+    ] {
         let device = rhythm_behind(&format!("9A 24 40 BA {sent}"));
         assert_eq!(states(&device), [Held], "{sent}");
     }
@@ -460,7 +510,10 @@ fn a_masked_channel_11_changes_its_kind() {
     feed(&mut device, &format!("{unmasked} 9A 2E 40 2A 40 8A 2A 40"));
     assert_eq!(states(&device), [Held, Idle]);
     feed(&mut device, &format!("{masked} {TO_MELODY} {unmasked}"));
-    assert_eq!((states(&device), device.rhythm(11)), ([Releasing, Idle], false));
+    assert_eq!(
+        (states(&device), device.rhythm(11)),
+        ([Releasing, Idle], false)
+    );
     feed(&mut device, "9A 2E 40 2C 40 8A 2C 40");
     assert_eq!(states(&device), [Releasing, Held, Releasing]);
 }
@@ -481,7 +534,10 @@ fn tables_and_kinds_do_not_touch_each_other() {
 fn who_loses_is_as_before() {
     let mut device = start(3, 0);
     feed(&mut device, &format!("{TO_RHYTHM} 9A 24 40 26 40 90 3C 40"));
-    assert_eq!(feed(&mut device, "99 24 40"), [note(10, 36, 0, Was::Stolen)]);
+    assert_eq!(
+        feed(&mut device, "99 24 40"),
+        [note(10, 36, 0, Was::Stolen)]
+    );
     assert_eq!(feed(&mut device, "90 3E 40"), [note(1, 62, 1, Was::Stolen)]);
     let refused = [refused_note(Number::NoneToSteal, 11, 42)];
     assert_eq!(feed(&mut device, "9A 2A 40"), refused);
@@ -495,7 +551,11 @@ fn the_query_knows_ten_and_a_rhythm_eleven_and_refuses_nothing() {
     let (refused, _) = Device::start(0, 200);
     assert_eq!(rhythm_channels(&refused), [10]);
     for device in random_devices() {
-        let expected: &[u8] = if device.second_drums() { &[10, 11] } else { &[10] };
+        let expected: &[u8] = if device.second_drums() {
+            &[10, 11]
+        } else {
+            &[10]
+        };
         assert_eq!(rhythm_channels(&device), expected);
     }
 }
@@ -541,7 +601,11 @@ fn the_page_counts_no_note_beyond_a_change_of_kind() {
     let row = |device: &Device| {
         let mut page = [0; paper::PAGE_BYTES];
         device.page(&mut page).expect("it has room");
-        String::from_utf8(page.to_vec()).expect("it is text").lines().nth(11).map(str::to_string)
+        String::from_utf8(page.to_vec())
+            .expect("it is text")
+            .lines()
+            .nth(11)
+            .map(str::to_string)
     };
     let mut device = behind("9A 3C 40 3E 40");
     assert_eq!(row(&device).as_deref(), Some("11 11   8   0 -  2"));

@@ -22,9 +22,7 @@ fn the_thirteen_numbers() {
         5, 0x11, 0x12, 0x13, 0x14, 0x3F, 0, 0, 0x17, 0x16, 12, 0x18, 0x19,
     ];
     assert_eq!(numbers_after(stored), all);
-    let reset = [
-        5, 0, 0x12, 0x13, 127, 0, 127, 127, 64, 0, 12, 0x18, 0x19,
-    ];
+    let reset = [5, 0, 0x12, 0x13, 127, 0, 127, 127, 64, 0, 12, 0x18, 0x19];
     assert_eq!(numbers_after(&format!("{stored} B0 79 00")), reset);
     assert_eq!(numbers_after(&format!("{stored} B0 79 01")), all);
 }

@@ -96,7 +96,11 @@ pub fn some_device(random: &mut Random, messages: usize) -> Device {
             2 => some_channel_mode(random, channel),
             3 | 4 => vec![0x80 | channel, random.below(12) as u8, 0],
             // Mostly of channel 11, whose kind they change.
-            5 => vec![0xB0 | random.pick(&[10, channel]), 0, random.pick(&[120, 121, 0])],
+            5 => vec![
+                0xB0 | random.pick(&[10, channel]),
+                0,
+                random.pick(&[120, 121, 0]),
+            ],
             6 => vec![0xC0 | random.pick(&[10, channel]), random.data()],
             _ => vec![0x90 | channel, random.below(12) as u8, 64],
         };
