@@ -44,7 +44,7 @@ const SHARED: [(&str, &str); 23] = [
 ];
 
 /// Such mistakes about what a theft takes, each with the claim that finds it.
-const SHARED_THEFTS: [(&str, &str); 25] = [
+const SHARED_THEFTS: [(&str, &str); 24] = [
     ("NewNoteNotCounted", OTHER_CHANNEL_OR_NONE),
     ("HighestPriorityLoses", OTHER_CHANNEL_OR_NONE),
     ("AnotherLoserSought", OTHER_CHANNEL),
@@ -68,7 +68,6 @@ const SHARED_THEFTS: [(&str, &str); 25] = [
     ("OnlyHeldStolen", PEDAL_NOTE_SPARED),
     ("OnlySustainedStolen", NOTE_TO_STEAL),
     ("DrumsOfElevenNotCounted", OTHER_CHANNEL_OR_NONE),
-    ("DrumsOfElevenCountedForTen", OTHER_CHANNEL),
     ("DrumsOfElevenNeverStolen", NOTE_TO_STEAL),
 ];
 const OTHER_CHANNEL: &str = "R5.8: ";
@@ -111,7 +110,7 @@ const SHARED_MODE: [&str; 27] = [
 
 /// Such mistakes about the bank and the kind of channel 11, found by demand 3 alone: without a look at rhythm queries,
 /// or at what a theft takes.
-const SHARED_KINDS: [&str; 91] = [
+const SHARED_KINDS: [&str; 92] = [
     "ElevenStartsInRhythmBank",
     "EveryChannelStartsInRhythmBank",
     "ElevenStartsAsRhythm",
@@ -203,6 +202,7 @@ const SHARED_KINDS: [&str; 91] = [
     "NewTableChangesKind",
     "NewTableResetsBanks",
     "MaskedDrumsOfElevenGoOn",
+    "DrumsOfElevenCountedForTen",
 ];
 
 /// Such mistakes of the rhythm query, found by the book's kind.

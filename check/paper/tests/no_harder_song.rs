@@ -167,7 +167,7 @@ fn all_lists_of_pedals_and_channel_mode_messages() {
 /// change the kind, let go of what it holds or take the pedal down.
 #[test]
 fn all_lists_of_kinds_of_channel_11() {
-    let alphabet = words("9A, 99, 8A, CA, 00, 2A, 2C, BA 00 78, BA 00 79, BA 40 7F, BA 7B 00");
+    let alphabet = words("9A, 99, 8A, CA, 00, 01, 2A, 2C, BA 00 78, BA 00 79, BA 40 7F, BA 7B 00");
     for (polyphony, most_bytes) in [(1, 14), (2, 11), (3, 10)] {
         search(polyphony, &alphabet, most_bytes);
     }
