@@ -388,6 +388,14 @@ fn groups_act_within_one_channel() {
     assert_eq!(keys, [(10, 42), (11, 42), (1, 46), (12, 44)]);
 }
 
+#[test]
+fn a_drum_of_10_leaves_melody_of_11_alone() {
+    let mut device = behind("9A 2E 40 99 2E 40 2A 40");
+    assert_eq!(states(&device), [Held, Held, Idle]);
+    feed(&mut device, "9A 2C 40 99 2C 40");
+    assert_eq!(states(&device), [Held, Held, Held]);
+}
+
 /// A full device: the group's generator is free before another is looked for.
 #[test]
 fn a_group_makes_room_on_a_full_device() {
@@ -518,6 +526,14 @@ fn a_masked_channel_11_changes_its_kind() {
     assert_eq!(states(&device), [Releasing, Held, Releasing]);
 }
 
+#[test]
+fn a_mask_releases_drums_of_11() {
+    let mut device = rhythm_behind("BA 40 7F 9A 24 40 2A 40");
+    feed(&mut device, &mip("09 04 00 08"));
+    assert_eq!(states(&device), [Releasing; 2]);
+    assert_eq!(rhythm_channels(&device), [10, 11]);
+}
+
 /// A table says nothing of banks and kinds (R2.9), nor do they of shares.
 #[test]
 fn tables_and_kinds_do_not_touch_each_other() {
@@ -541,6 +557,21 @@ fn who_loses_is_as_before() {
     assert_eq!(feed(&mut device, "90 3E 40"), [note(1, 62, 1, Was::Stolen)]);
     let refused = [refused_note(Number::NoneToSteal, 11, 42)];
     assert_eq!(feed(&mut device, "9A 2A 40"), refused);
+}
+
+/// Channels 11 and 10 with a share of two each, and 10 with the lower priority: drums of 11 are its own count, not 10's.
+#[test]
+fn each_rhythm_channel_counts_its_own_drums() {
+    let mut device = start(4, 0);
+    let table = mip("0A 02 09 04");
+    feed(
+        &mut device,
+        &format!("{TO_RHYTHM} {table} 99 24 40 26 40 9A 24 40 26 40"),
+    );
+    let stolen = [note(11, 40, 2, Was::Stolen)];
+    assert_eq!(feed(&mut device, "9A 28 40"), stolen);
+    let stolen = [note(10, 40, 0, Was::Stolen)];
+    assert_eq!(feed(&mut device, "99 28 40"), stolen);
 }
 
 #[test]
