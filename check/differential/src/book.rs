@@ -200,6 +200,14 @@ impl Book {
         self.notes_of(channel).filter(kept).count() + 1
     }
 
+    /// The same if it ended none but its own key: on a rhythm channel it can be more.
+    pub fn count_at_but_for_group(&self, channel: u8, key: u8) -> usize {
+        self.notes_of(channel)
+            .filter(|note| note.key != key)
+            .count()
+            + 1
+    }
+
     /// R13.1: the most thefts of so many bytes from a fresh device.
     pub fn most_thefts(&self, bytes: usize) -> usize {
         match self.slip {
