@@ -78,6 +78,7 @@ impl Channel {
     }
 
     /// Stores a controller's value (R6.6, R6.8, R6.9). Every other controller changes none of the thirteen (R6.13).
+    #[inline]
     pub(crate) fn store(&mut self, number: u8, value: u8) {
         match number {
             controller::BANK_MSB => self.bank_msb = value,
