@@ -559,7 +559,7 @@ fn who_loses_is_as_before() {
     assert_eq!(feed(&mut device, "9A 2A 40"), refused);
 }
 
-/// Channels 11 and 10 with a share of two each, and 10 with the lower priority: drums of 11 are its own count, not 10's.
+/// Channels 11 and 10 with a share of two each, 10 with the lower priority: drums of 11 are its own count, not 10's.
 #[test]
 fn each_rhythm_channel_counts_its_own_drums() {
     let mut device = start(4, 0);
