@@ -15,6 +15,7 @@ struct muntinorris_answer right_report(struct muntinorris_device *d, uint8_t gen
 struct muntinorris_generator_answer right_generator(const struct muntinorris_device *d, uint8_t generator);
 struct muntinorris_mask_answer right_mask(const struct muntinorris_device *d, uint8_t channel);
 struct muntinorris_share_answer right_share(const struct muntinorris_device *d, uint8_t channel);
+uint8_t right_rhythm(const struct muntinorris_device *d, uint8_t channel);
 uint8_t right_page(const struct muntinorris_device *d, uint8_t *page, size_t length);
 struct muntinorris_pitch_answer right_pitch(uint8_t key, uint8_t sensitivity, uint16_t bend);
 struct muntinorris_gains_answer right_gains(uint8_t expression, uint8_t volume, uint8_t pan);
@@ -111,6 +112,15 @@ struct muntinorris_share_answer muntinorris_share(const struct muntinorris_devic
     struct muntinorris_share_answer a = right_share(d, channel);
 
     if (is_wrong("share"))
+        change(&a);
+    return a;
+}
+
+uint8_t muntinorris_rhythm(const struct muntinorris_device *d, uint8_t channel)
+{
+    uint8_t a = right_rhythm(d, channel);
+
+    if (is_wrong("rhythm") || (d->instrument.polyphony > 64 && is_meant("rhythm of rubbish")))
         change(&a);
     return a;
 }

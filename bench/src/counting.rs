@@ -38,6 +38,7 @@ struct Case {
 }
 
 const DRUM_CHANNEL: u8 = 9;
+const SECOND_DRUM_CHANNEL: u8 = 10;
 
 /// Callgrind writes a file whenever this is called.
 #[no_mangle]
@@ -139,16 +140,21 @@ fn nothing_completed() -> Vec<Case> {
     ]
 }
 
-/// 64 generators of channel 10, all but the newest releasing, all of one key.
-fn drum_roll(key: u8) -> Vec<u8> {
-    let mut bytes = vec![0x90 | DRUM_CHANNEL];
+/// 64 generators of a channel, all but the newest releasing, all of one key.
+fn drum_roll(channel: u8, key: u8) -> Vec<u8> {
+    let mut bytes = vec![0x90 | channel];
     bytes.extend([key, 64].repeat(64));
     bytes
 }
 
 /// 64 generators of channel 1, held.
 fn all_of_channel_1() -> Vec<u8> {
-    let mut bytes = vec![0x90];
+    all_of(0)
+}
+
+/// 64 generators of a channel on the wire, held.
+fn all_of(channel: u8) -> Vec<u8> {
+    let mut bytes = vec![0x90 | channel];
     bytes.extend((0..64).flat_map(|key| [key, 64]));
     bytes
 }
@@ -168,7 +174,11 @@ fn open_mip(pairs: impl IntoIterator<Item = (u8, u8)>) -> Vec<u8> {
 /// Whole notes, and last bytes that have the most to do.
 fn messages() -> Vec<Case> {
     let last = |name, setup: &[u8], byte| case(name, setup, &[byte], Target::SingleByte);
-    let (full, drums, theft) = (all_of_channel_1(), drum_roll(44), before_theft());
+    let (full, drums, theft) = (
+        all_of_channel_1(),
+        drum_roll(DRUM_CHANNEL, 44),
+        before_theft(),
+    );
     let mut cases = vec![
         case(
             "theft, three bytes, fresh table",
@@ -187,6 +197,7 @@ fn messages() -> Vec<Case> {
     cases.extend(pedal_thefts(&full));
     cases.extend(notes(&full, &drums));
     cases.extend(pedals(&full));
+    cases.extend(kinds());
     cases.extend(exclusive(&full));
     cases
 }
@@ -271,6 +282,34 @@ fn pedals(full: &[u8]) -> Vec<Case> {
         last("volume", vec![0xB0, 7], 100),
         last("bend", vec![0xE0, 0], 64),
         last("program", vec![0xC0], 5),
+    ]
+}
+
+/// Programs while channel 11 holds 64 notes and its bank says rhythm, a bank alone, and a drum of channel 11.
+fn kinds() -> Vec<Case> {
+    let last = |name, setup: Vec<u8>, byte| case(name, &setup, &[byte], Target::SingleByte);
+    let bank_select = [0xB0 | SECOND_DRUM_CHANNEL, 0, 120];
+    let held = followed(all_of(SECOND_DRUM_CHANNEL), &bank_select);
+    let program = 0xC0 | SECOND_DRUM_CHANNEL;
+    let rhythm = followed(bank_select.to_vec(), &[program, 0]);
+    let drums = followed(rhythm, &drum_roll(SECOND_DRUM_CHANNEL, 44));
+    vec![
+        last(
+            "kind changes, 64 held",
+            followed(held.clone(), &[program]),
+            5,
+        ),
+        last(
+            "program of another channel, 64 held",
+            followed(held, &[0xC0]),
+            5,
+        ),
+        last("bank select", bank_select[..2].to_vec(), 120),
+        last(
+            "note-on, group of 64 silenced, channel 11",
+            followed(drums, &[42]),
+            64,
+        ),
     ]
 }
 

@@ -1,8 +1,9 @@
-//! The note book (R9.1 to R9.17): which notes the device owes, kept from messages, reports and answers alone.
+//! The note book (R9.1 to R9.19): which notes the device owes, kept from messages, reports and answers alone.
 //!
 //! A book can be told to forget one of its rules or to have one wrong (a `Slip`), to show that the checks would notice.
 
-use crate::drums::{excludes, DRUM_CHANNEL};
+use crate::drums::{excludes, DRUM_CHANNEL, SECOND_DRUM_CHANNEL};
+use crate::eleven::Eleven;
 use crate::split::Message;
 use paper::{most_thefts, Answer, MOST_GENERATORS};
 
@@ -40,6 +41,26 @@ pub enum Slip {
     PedalNotesNotCounted,
     KeysDownFirst,
     OldestOfBothKinds,
+    /// Channel 11 is melody whatever comes.
+    KindOfEleven,
+    GroupOfEleven,
+    GroupsAcrossChannels,
+    NoteOffOfEleven,
+    AllNotesOffOfEleven,
+    ChangeOfKind,
+    PedalNotesAtChangeOfKind,
+    KeysDownAtChangeOfKind,
+    EveryProgramEndsNotes,
+    BankOfAnyChannel,
+    ProgramOfAnyChannel,
+    BankLsb,
+    BanksSwapped,
+    OtherBanksMakeMelody,
+    KindByBankAlone,
+    KindWhileMasked,
+    BankReset,
+    KindReset,
+    KindAtSystemOn,
 }
 
 pub const SLIPS: [Slip; 11] = [
@@ -54,6 +75,29 @@ pub const SLIPS: [Slip; 11] = [
     Slip::Report,
     Slip::NewTable,
     Slip::Reset,
+];
+
+/// What can be wrong about channel 11.
+pub const SLIPS_OF_KINDS: [Slip; 19] = [
+    Slip::KindOfEleven,
+    Slip::GroupOfEleven,
+    Slip::GroupsAcrossChannels,
+    Slip::NoteOffOfEleven,
+    Slip::AllNotesOffOfEleven,
+    Slip::ChangeOfKind,
+    Slip::PedalNotesAtChangeOfKind,
+    Slip::KeysDownAtChangeOfKind,
+    Slip::EveryProgramEndsNotes,
+    Slip::BankOfAnyChannel,
+    Slip::ProgramOfAnyChannel,
+    Slip::BankLsb,
+    Slip::BanksSwapped,
+    Slip::OtherBanksMakeMelody,
+    Slip::KindByBankAlone,
+    Slip::KindWhileMasked,
+    Slip::BankReset,
+    Slip::KindReset,
+    Slip::KindAtSystemOn,
 ];
 
 pub const WRONG_BOUNDS: [Slip; 3] = [Slip::OneTheftLess, Slip::OneByteLess, Slip::ThreeBytesANote];
@@ -73,6 +117,7 @@ pub struct Book {
     hold: [u8; 16],
     /// Channel minus 1 and value, by falling priority.
     table: Vec<(u8, u8)>,
+    eleven: Eleven,
     slip: Option<Slip>,
 }
 
@@ -97,6 +142,7 @@ impl Book {
             table: STARTING_ORDER
                 .map(|channel| (channel - 1, polyphony))
                 .to_vec(),
+            eleven: Eleven::FRESH,
             slip,
         }
     }
@@ -127,15 +173,39 @@ impl Book {
         (value <= self.polyphony).then(|| usize::from(value.saturating_sub(before)))
     }
 
+    /// Is a channel on the wire a rhythm channel (R5.12)?
+    pub fn is_rhythm(&self, channel: u8) -> bool {
+        channel == DRUM_CHANNEL
+            || channel == SECOND_DRUM_CHANNEL
+                && self.eleven.is_rhythm()
+                && !self.has(Slip::KindOfEleven)
+    }
+
+    /// Is it one, but for a rule that a wrong book does not have on channel 11?
+    fn is_rhythm_but_for(&self, channel: u8, slip: Slip) -> bool {
+        self.is_rhythm(channel) && !(channel == SECOND_DRUM_CHANNEL && self.has(slip))
+    }
+
     /// Does a note-on of this channel and key end the note, before it looks for a generator?
-    pub fn ended_by(channel: u8, key: u8, note: Note) -> bool {
-        note.channel == channel && (note.key == key || excludes(channel, key, note.key))
+    pub fn ended_by(&self, channel: u8, key: u8, note: Note) -> bool {
+        let rhythm = self.is_rhythm_but_for(channel, Slip::GroupOfEleven);
+        let across = self.has(Slip::GroupsAcrossChannels) && self.is_rhythm(note.channel);
+        let own = note.channel == channel;
+        own && note.key == key || rhythm && (own || across) && excludes(key, note.key)
     }
 
     /// R10.4: a channel's count at a note-on.
     pub fn count_at(&self, channel: u8, key: u8) -> usize {
-        let kept = |note: &Note| !Book::ended_by(channel, key, *note);
+        let kept = |note: &Note| !self.ended_by(channel, key, *note);
         self.notes_of(channel).filter(kept).count() + 1
+    }
+
+    /// The same if it ended none but its own key: on a rhythm channel it can be more.
+    pub fn count_at_but_for_group(&self, channel: u8, key: u8) -> usize {
+        self.notes_of(channel)
+            .filter(|note| note.key != key)
+            .count()
+            + 1
     }
 
     /// R13.1: the most thefts of so many bytes from a fresh device.
@@ -168,6 +238,7 @@ impl Book {
     }
 
     fn channel_message(&mut self, kind: u8, channel: u8, data: [u8; 2], answer: Answer) -> Seen {
+        self.second_drums(kind, channel, data);
         match (kind, data) {
             (0x9, [key, 1..=127]) => return self.note_on(channel, key, answer),
             (0x8 | 0x9, [key, _]) if !self.has(Slip::NoteOff) => self.note_off(channel, key),
@@ -195,14 +266,36 @@ impl Book {
         Seen::Ordinary
     }
 
+    /// R9.18, R9.19: the notes of channel 11 leave where its kind changes.
+    fn second_drums(&mut self, kind: u8, channel: u8, data: [u8; 2]) {
+        if self.has(Slip::KindWhileMasked) && self.share(SECOND_DRUM_CHANNEL).is_none() {
+            return;
+        }
+        let slip = self.slip;
+        let has = |wrong| slip == Some(wrong);
+        let changed = self.eleven.message(kind, channel, data, has);
+        let program = kind == 0xC && channel == SECOND_DRUM_CHANNEL;
+        if changed || program && has(Slip::EveryProgramEndsNotes) {
+            let stays = |note: Note| match note.down {
+                true => has(Slip::ChangeOfKind) || has(Slip::KeysDownAtChangeOfKind),
+                false => has(Slip::ChangeOfKind) || has(Slip::PedalNotesAtChangeOfKind),
+            };
+            self.drop_notes(|note| note.channel == SECOND_DRUM_CHANNEL && !stays(note));
+        }
+    }
+
     fn note_on(&mut self, channel: u8, key: u8, answer: Answer) -> Seen {
         let Answer::Note { generator, .. } = answer else {
             return Seen::Ordinary;
         };
         let (same_key, group) = (!self.has(Slip::SameKey), !self.has(Slip::Group));
-        self.drop_notes(|note| {
-            Book::ended_by(channel, key, note) && if note.key == key { same_key } else { group }
+        let ended = self.notes.map(|note| {
+            note.filter(|&note| self.ended_by(channel, key, note))
+                .is_some_and(|note| if note.key == key { same_key } else { group })
         });
+        for (place, _) in self.notes.iter_mut().zip(ended).filter(|place| place.1) {
+            *place = None;
+        }
         let note = Note {
             channel,
             key,
@@ -215,14 +308,14 @@ impl Book {
     }
 
     fn note_off(&mut self, channel: u8, key: u8) {
-        if channel != DRUM_CHANNEL {
+        if !self.is_rhythm_but_for(channel, Slip::NoteOffOfEleven) {
             self.keys_up(channel, |note| note.key == key);
         }
     }
 
-    /// R9.13: on channel 10 they leave, whatever the hold.
+    /// R9.13: on a rhythm channel they leave, whatever the hold.
     fn all_notes_off(&mut self, channel: u8) {
-        if channel == DRUM_CHANNEL {
+        if self.is_rhythm_but_for(channel, Slip::AllNotesOffOfEleven) {
             self.drop_notes(|note| note.channel == channel && note.down);
         } else {
             self.keys_up(channel, |_| true);
@@ -255,8 +348,12 @@ impl Book {
                 Seen::Boundary
             }
             [0x7E, d, 0x09, 0x01] if accepted(*d) => {
+                let eleven = self.eleven;
                 if !self.has(Slip::Reset) {
                     *self = Book::fresh(self.polyphony, self.id, self.slip);
+                }
+                if self.has(Slip::KindAtSystemOn) {
+                    self.eleven = eleven;
                 }
                 Seen::Boundary
             }
@@ -281,6 +378,11 @@ impl Book {
                 *place = None;
             }
         }
+    }
+
+    /// Has it no rule wrong?
+    pub fn is_right(&self) -> bool {
+        self.slip.is_none()
     }
 
     /// Is this rule forgotten, or wrong?

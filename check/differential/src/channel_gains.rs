@@ -1,17 +1,18 @@
-//! Asks two implementations for the gains of a channel's numbers: three of the eleven count, and the other eight must
+//! Asks two implementations for the gains of a channel's numbers: three of the thirteen count, and the other ten must
 //! be seen not to.
 
 use crate::gains::{is_identical, Answered, Compared};
 use proved::Channel;
 use random::Random;
 
-/// Places among the eleven numbers.
+/// Places among the thirteen numbers.
+pub const NUMBERS: usize = 13;
 pub const VOLUME: usize = 2;
 pub const PAN: usize = 3;
 pub const EXPRESSION: usize = 4;
 pub const THREE: [usize; 3] = [EXPRESSION, VOLUME, PAN];
 
-pub const NAMES: [&str; 11] = [
+pub const NAMES: [&str; NUMBERS] = [
     "program",
     "modulation",
     "volume",
@@ -23,6 +24,8 @@ pub const NAMES: [&str; 11] = [
     "bend MSB",
     "bend LSB",
     "sensitivity",
+    "bank MSB",
+    "bank LSB",
 ];
 
 /// So many channels, each with every value of every one of its numbers.
@@ -35,7 +38,7 @@ pub fn compare(
     b: impl Fn(Channel) -> Answered,
 ) -> Result<Compared, String> {
     let mut compared = Compared::default();
-    let mut counted = [false; 11];
+    let mut counted = [false; NUMBERS];
     for _ in 0..CHANNELS {
         let channel = some_channel(random);
         changed(channel, &a, &b, &mut compared, &mut counted)?;
@@ -52,11 +55,12 @@ fn changed(
     a: impl Fn(Channel) -> Answered,
     b: impl Fn(Channel) -> Answered,
     compared: &mut Compared,
-    counted: &mut [bool; 11],
+    counted: &mut [bool; NUMBERS],
 ) -> Result<(), String> {
     let unchanged = b(channel);
     compared.take(|| words(channel), &a(channel), &unchanged)?;
-    for (place, value) in (0..11).flat_map(|place| (0..=255).map(move |value| (place, value))) {
+    let values = |place| (0..=255).map(move |value| (place, value));
+    for (place, value) in (0..NUMBERS).flat_map(values) {
         let mut channel = channel;
         channel[place] = value;
         let answer = b(channel);

@@ -4,6 +4,7 @@
 //! The book is kept beside the devices; nothing here looks into a device except to compare.
 
 use crate::book::{Book, Note, Seen, Slip};
+use crate::drums::SECOND_DRUM_CHANNEL;
 use crate::lists::Event;
 use crate::record::Record;
 use crate::split::{Message, Splitter};
@@ -17,6 +18,10 @@ pub struct Exercised {
     pub within_share: u64,
     /// Of these, the ones that found a note on every generator.
     pub within_share_and_full: u64,
+    /// Of those, the ones of a rhythm channel 11.
+    pub drums_within_share_and_full: u64,
+    /// Of those, the ones that only fit because they end another of their group.
+    pub drums_within_share_by_group: u64,
     /// Thefts and refusals on unmasked channels.
     pub thefts_and_refusals: u64,
     /// Bytes behind a fresh device and no report.
@@ -197,6 +202,15 @@ impl Claims {
         exercised.within_share += 1;
         let full = self.book.notes().iter().all(Option::is_some);
         exercised.within_share_and_full += u64::from(full);
+        if full && channel == SECOND_DRUM_CHANNEL && self.book.is_rhythm(channel) {
+            exercised.drums_within_share_and_full += 1;
+            let with_group = self.book.count_at_but_for_group(channel, key);
+            let by_group = self
+                .book
+                .share(channel)
+                .is_some_and(|share| with_group > share);
+            exercised.drums_within_share_by_group += u64::from(by_group);
+        }
         match answer {
             Answer::Note { .. } => Ok(()),
             _ => Err(format!(
@@ -283,7 +297,7 @@ fn justified(
     let needed = had
         .notes()
         .iter()
-        .all(|note| note.is_some_and(|note| !Book::ended_by(channel, key, note)));
+        .all(|note| note.is_some_and(|note| !had.ended_by(channel, key, note)));
     if needed {
         return Ok(());
     }

@@ -1,7 +1,7 @@
 //! Feeds two implementations the same lists and compares answers, queries and whole records after
 //! every event, and service pages now and then, with the book and its claims beside them.
 
-use crate::book::Slip;
+use crate::book::{Book, Slip};
 use crate::claims::{Claims, Exercised};
 use crate::gains::Compared;
 use crate::lists::{Event, Kind, List};
@@ -152,9 +152,10 @@ where
             let answer = same("answer", happen(&mut a, event), happen(&mut b, event))?;
             count(&mut reached.tally, event, answer, &record);
             claims.event(event, answer, &mut reached.claims)?;
-            record = same_record(&a, &b)?;
+            let before = std::mem::replace(&mut record, same_record(&a, &b)?);
+            reached.tally.eleven.event(event, answer, &before, &record);
             claims.record(&record)?;
-            queries(&a, &b, random, &mut reached.tally)?;
+            queries(&a, &b, random, &mut reached.tally, claims.book())?;
             if random.one_in(8) {
                 probe(&a, &b, random)?;
             }
@@ -230,6 +231,7 @@ fn queries(
     b: &impl Implementation,
     random: &mut Random,
     tally: &mut Tally,
+    book: &Book,
 ) -> Result<(), String> {
     let (generator, channel) = match random.below(8) {
         0 => (random.byte(), random.byte()),
@@ -242,12 +244,30 @@ fn queries(
     );
     let masked = same("mask query", a.masked(channel), b.masked(channel));
     let share = same("share query", a.share(channel), b.share(channel));
+    rhythm_query(a, b, channel, book)?;
     // A channel of the record, by the number that is drawn already.
     let wire = usize::from(channel) % 16;
     let words = || format!("gains query: channel {}", wire + 1);
     Compared::default().take(words, &a.gains(wire), &b.gains(wire))?;
     let numbers: [Option<Number>; 3] = [view?.err(), masked?.err(), share?.err()];
     numbers.into_iter().flatten().for_each(|n| tally.query(n));
+    Ok(())
+}
+
+/// Asks both whether a channel, from 1, is a rhythm channel. A right book knows it too (R5.12, R9.19).
+fn rhythm_query(
+    a: &impl Implementation,
+    b: &impl Implementation,
+    channel: u8,
+    book: &Book,
+) -> Result<(), String> {
+    let rhythm = same("rhythm query", a.rhythm(channel), b.rhythm(channel))?;
+    let expected = (1..=16).contains(&channel) && book.is_rhythm(channel - 1);
+    if book.is_right() && rhythm != expected {
+        return Err(format!(
+            "rhythm query: {rhythm} for channel {channel}, the book says {expected}"
+        ));
+    }
     Ok(())
 }
 

@@ -1,7 +1,7 @@
 //! Shows that the comparison of gains can fail: wrong variants, wrong weights and calls that take the wrong numbers of
 //! a channel must be found; and that it does not ask for more than R12.7 does.
 
-use crate::channel_gains::{EXPRESSION, NAMES, PAN, THREE, VOLUME};
+use crate::channel_gains::{EXPRESSION, NAMES, NUMBERS, PAN, THREE, VOLUME};
 use crate::self_test::{variants, Variant};
 use crate::wrong_gains::{right, with_another_weight, with_millionths, SLIPS, WEIGHTS};
 use crate::{channel_gains, gains, library, reference};
@@ -94,7 +94,7 @@ fn wrong_places(seed: u64) -> Vec<String> {
         .filter_map(|places| find(places).map(|found| format!("places {places:?}: {found}")))
         .collect();
     let exchanged = [[PAN, VOLUME, EXPRESSION], [EXPRESSION, PAN, VOLUME]];
-    let taken = (0..3).flat_map(|which| (0..11).map(move |place| (which, place)));
+    let taken = (0..3).flat_map(|which| (0..NUMBERS).map(move |place| (which, place)));
     let taken = taken.map(|(which, place)| {
         let mut places = THREE;
         places[which] = place;
@@ -109,7 +109,7 @@ fn wrong_places(seed: u64) -> Vec<String> {
     complaints
 }
 
-/// Each of the other eight numbers, as one that is refused above 127, and as one that makes a difference below the
+/// Each of the other ten numbers, as one that is refused above 127, and as one that makes a difference below the
 /// bound.
 fn others_that_count(seed: u64) -> Vec<String> {
     let unchanged = taken_from(THREE);
@@ -117,7 +117,7 @@ fn others_that_count(seed: u64) -> Vec<String> {
         let [expression, volume, pan] = THREE.map(|place| channel[place]);
         with_millionths((expression, volume, pan), -0.5, -0.5)
     };
-    let others = (0..11).filter(|place| !THREE.contains(place));
+    let others = (0..NUMBERS).filter(|place| !THREE.contains(place));
     others
         .flat_map(|place| {
             let refused = channel_difference(seed, |channel| match channel[place] {

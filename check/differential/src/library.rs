@@ -106,6 +106,7 @@ pub fn survive_rubbish(random: &mut Random, records: usize) -> Given<()> {
             lent.device.generator(random.byte());
             lent.device.mask(random.byte());
             lent.device.share(random.byte());
+            lent.device.rhythm(random.byte());
             lent.device.gains(random.below(16));
         }
         lent.neighbours_untouched()?;
@@ -127,6 +128,28 @@ pub fn survive_pages(random: &mut Random, records: usize) -> Result<(), String> 
         lent.device.page(other.buffer());
         lent.is_as(before).map_err(|Malformed(found)| found)?;
         pages::judge_rubbish(length, number, [&memory, &other])?;
+    }
+    Ok(())
+}
+
+/// Rhythm queries of such records: channel 10 is a rhythm channel, channel 11 where its kind is 1 and no other number
+/// (R1.14), and nothing else is, whatever there is beside.
+pub fn rhythm_of_rubbish(random: &mut Random, records: usize) -> Result<(), String> {
+    for _ in 0..records {
+        let mut lent = Lent::new(std::array::from_fn(|_| random.byte()));
+        let kind = match random.below(2) {
+            0 => random.byte(),
+            _ => random.pick(&[0, 1, 1, 2, 255]),
+        };
+        lent.device.instrument.kind = kind;
+        let found: Vec<u8> = (0..=255)
+            .map(|channel| lent.device.rhythm(channel))
+            .collect();
+        let expected = |channel: u8| u8::from(channel == 10 || channel == 11 && kind == 1);
+        if let Some(channel) = (0..=255).find(|&c| found[usize::from(c)] != expected(c)) {
+            let raw = found[usize::from(channel)];
+            return Err(format!("{raw} for channel {channel}, kind {kind}"));
+        }
     }
     Ok(())
 }
@@ -281,6 +304,15 @@ fn generators_of(raw: &proved::Generators) -> Given<[GeneratorView; 64]> {
     Ok(generators)
 }
 
+/// A kind, or what a rhythm query gives: 1 for rhythm, 0 for anything else (R1.14, R18.6).
+fn rhythm_of(raw: u8) -> Given<bool> {
+    match raw {
+        0 => Ok(false),
+        1 => Ok(true),
+        _ => Err(Malformed(format!("{raw} for rhythm"))),
+    }
+}
+
 /// A query's answer: its number, "and then the other fields are 0", or what it asks for.
 fn query_of<T>(number: u8, rest: &[u8], value: Option<T>) -> Given<Result<T, Number>> {
     let refused = number_of(number).filter(|_| rest.iter().all(|&field| field == 0));
@@ -428,6 +460,10 @@ impl Implementation for Lent {
         query_of(raw.number, &[raw.share], Some(raw.share))
     }
 
+    fn rhythm(&self, channel: u8) -> Given<bool> {
+        rhythm_of(self.device.rhythm(channel))
+    }
+
     fn page(&mut self, memory: &mut Memory) -> Given<Result<(), Number>> {
         let before = self.device.bytes();
         let number = self.device.page(memory.buffer());
@@ -453,6 +489,7 @@ pub fn record_of(device: &Device, status: u8, data: u8) -> Given<Record> {
         id: instrument.id,
         entries: entries_of(&instrument.table)?,
         channels: instrument.channels,
+        second_drums: rhythm_of(instrument.kind)?,
         generators: generators_of(&instrument.generators)?,
         oldest_first: ages_of(&instrument.generators.ages)?,
         progress: progress_of(&device.parser, status, data)?,

@@ -2,7 +2,7 @@
 
 use crate::song::SONG;
 use crate::staged_thefts;
-use crate::writer::{Mix, Writer, FAULTS, PEDALS, PLAYING, TABLES};
+use crate::writer::{Mix, Writer, FAULTS, PEDALS, PLAYING, SECOND_DRUMS, TABLES};
 use random::Random;
 
 #[derive(Clone, Copy, Debug, PartialEq, Eq)]
@@ -29,6 +29,8 @@ pub enum Kind {
     Thefts,
     /// Thefts of pedal notes and of held ones, each on a device that is filled for it.
     StagedThefts,
+    /// Channel 11 from melody to rhythm and back, with notes of it and of channel 10.
+    SecondDrums,
     /// Messages around a SysEx of about 100,000 bytes with real-time bytes within.
     LongSysEx,
 }
@@ -41,8 +43,8 @@ pub struct List {
 }
 
 /// How often each kind of list comes, but for staged thefts, which come in turn, and the long one: it is every 200th
-/// list.
-const KINDS: [(usize, Kind); 7] = [
+/// list. Channel 11's come in turn as well.
+const KINDS: [(usize, Kind); 8] = [
     (4, Kind::Noise),
     (4, Kind::Playing),
     (3, Kind::Pedals),
@@ -50,15 +52,18 @@ const KINDS: [(usize, Kind); 7] = [
     (3, Kind::Faults),
     (3, Kind::Song),
     (2, Kind::Thefts),
+    (2, Kind::SecondDrums),
 ];
 const LONG_EVERY: u64 = 200;
 
 const POLYPHONIES: [u8; 10] = [1, 2, 3, 4, 8, 16, 24, 32, 63, 64];
-/// Of every ten lists the third has staged thefts and the fifth a refused start, in turn, so that a short run meets
-/// each.
+/// Of every ten lists the third has staged thefts, the fifth a refused start, in turn, and the seventh changes the kind
+/// of channel 11, so that a short run meets each.
 const TURN: u64 = 10;
 /// From 2 on a staged theft has all that it needs; 1 is there for the edge.
 const STAGED_POLYPHONIES: [u8; 9] = [4, 3, 64, 8, 2, 63, 16, 1, 24];
+/// Mostly with room for drums of both channels.
+const DRUM_POLYPHONIES: [u8; 8] = [8, 4, 16, 64, 3, 24, 1, 32];
 const REFUSED_STARTS: [(u8, u8); 7] = [
     (0, 0),
     (65, 7),
@@ -76,11 +81,16 @@ impl List {
         let kind = match (number % LONG_EVERY, number % TURN) {
             (0, _) => Kind::LongSysEx,
             (_, 3) => Kind::StagedThefts,
+            (_, 7) => Kind::SecondDrums,
             _ => pick_weighted(random, &KINDS),
         };
         let (polyphony, id) = match number % TURN {
             3 => (
                 STAGED_POLYPHONIES[turn % STAGED_POLYPHONIES.len()],
+                start(random).1,
+            ),
+            7 => (
+                DRUM_POLYPHONIES[turn % DRUM_POLYPHONIES.len()],
                 start(random).1,
             ),
             5 => REFUSED_STARTS[turn % REFUSED_STARTS.len()],
@@ -106,6 +116,7 @@ pub fn events(random: &mut Random, kind: Kind, length: usize, start: (u8, u8)) -
         Kind::Faults => messages(random, length, start, FAULTS),
         Kind::Song => mutated_songs(random, length, start.0),
         Kind::Thefts => thefts(random, length),
+        Kind::SecondDrums => second_drums(random, length, start),
         Kind::StagedThefts => staged_thefts::events(random, length, start),
         Kind::LongSysEx => long_sysex(random, start),
     }
@@ -156,6 +167,14 @@ fn messages(random: &mut Random, length: usize, start: (u8, u8), mix: Mix) -> Ve
     let mut writer = Writer::new(random, start);
     while writer.events.len() < length {
         writer.phrase(mix);
+    }
+    writer.events
+}
+
+fn second_drums(random: &mut Random, length: usize, start: (u8, u8)) -> Vec<Event> {
+    let mut writer = Writer::of_drums(random, start);
+    while writer.events.len() < length {
+        writer.phrase(SECOND_DRUMS);
     }
     writer.events
 }

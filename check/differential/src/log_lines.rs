@@ -3,7 +3,7 @@
 //! A device plays along, so that the musician knows which keys to let go and which generators to report. What a log
 //! must yield is not known here; both sides of the comparison say that.
 
-use crate::drums::{excludes, DRUM_CHANNEL};
+use crate::drums::{excludes, DRUM_CHANNEL, SECOND_DRUM_CHANNEL};
 use crate::lists::{self, pick_weighted};
 use paper::{Device, Event, GeneratorView, State};
 use random::Random;
@@ -17,6 +17,7 @@ enum Phrase {
     Pedal,
     Controller,
     ProgramOrBend,
+    SecondDrums,
     ReportOfBusy,
     ReportOfAny,
     SystemOn,
@@ -36,6 +37,7 @@ const MUSIC: &[(usize, Phrase)] = &[
     (9, Phrase::Pedal),
     (4, Phrase::Controller),
     (3, Phrase::ProgramOrBend),
+    (2, Phrase::SecondDrums),
     (4, Phrase::ReportOfBusy),
     (8, Phrase::ReportOfAny),
     (1, Phrase::SystemOn),
@@ -100,6 +102,7 @@ impl Musician<'_> {
                 Phrase::Pedal => self.pedal(),
                 Phrase::Controller => self.controller(),
                 Phrase::ProgramOrBend => self.program_or_bend(),
+                Phrase::SecondDrums => self.second_drums(),
                 Phrase::ReportOfBusy => self.report_of_busy(),
                 Phrase::ReportOfAny => self.report_of_any(),
                 Phrase::SystemOn => self.system_on(),
@@ -181,7 +184,7 @@ impl Musician<'_> {
     fn end_note(&mut self, generator: u8, view: GeneratorView) {
         let channel = view.channel - 1;
         let pedal = self.device.channels()[usize::from(channel)].pedal_down();
-        if pedal || channel == DRUM_CHANNEL || self.random.one_in(4) {
+        if pedal || self.device.rhythm(view.channel) || self.random.one_in(4) {
             self.event(Event::Report(generator));
         } else if self.random.one_in(2) {
             self.message(0x80 | channel, &[view.key, 64]);
@@ -204,15 +207,16 @@ impl Musician<'_> {
         }
     }
 
-    /// A key that is down or on the pedal once more, or on channel 10 another one of its group: there is room for it
-    /// always.
+    /// A key that is down or on the pedal once more, or on a rhythm channel another one of its group: there is room for
+    /// it always.
     fn key_again(&mut self) {
         let busy = self.busy();
         let Some(&(_, view)) = busy.get(self.random.below(busy.len().max(1))) else {
             return;
         };
         let channel = view.channel - 1;
-        let others = (0..128).find(|&key| excludes(channel, key, view.key));
+        let drums = self.device.rhythm(view.channel);
+        let others = (0..128).find(|&key| drums && excludes(key, view.key));
         let key = others.filter(|_| self.random.one_in(2)).unwrap_or(view.key);
         self.message(0x90 | channel, &[key, 64]);
     }
@@ -245,6 +249,19 @@ impl Musician<'_> {
             0 => self.message(0xC0 | channel, &[data]),
             1 => self.message(0xD0 | channel, &[data]),
             _ => self.message(0xE0 | channel, &[data, 64]),
+        }
+    }
+
+    /// A bank, and mostly a program, of channel 11, and a chord there: its kind may be another one then.
+    fn second_drums(&mut self) {
+        let channel = SECOND_DRUM_CHANNEL;
+        let (msb, program) = (self.random.pick(&[120, 120, 121, 0]), self.random.data());
+        self.message(0xB0 | channel, &[0, msb]);
+        if !self.random.one_in(4) {
+            self.message(0xC0 | channel, &[program]);
+        }
+        for _ in 0..self.random.below(4) {
+            self.note(channel);
         }
     }
 

@@ -174,6 +174,7 @@ fn list(random: &mut Random, length: usize) -> Vec<u8> {
         lists::Kind::Faults,
         lists::Kind::Song,
         lists::Kind::Thefts,
+        lists::Kind::SecondDrums,
     ];
     let kind = random.pick(&kinds);
     let mut events = lists::events(random, kind, 1 + 3 * length, (64, 0));

@@ -13,6 +13,8 @@ mod channel_gains;
 mod claims;
 mod compare;
 mod drums;
+mod eleven;
+mod eleven_tally;
 mod gains;
 mod gains_self_test;
 mod hardest_song;
@@ -146,20 +148,29 @@ fn differential(options: &Options) -> Result<(), String> {
     print(&reached, seconds);
     println!("{nowhere} calls for a page without a buffer, each refused");
     rubbish(options.seed)?;
+    let missing = missing(&reached, &held, &arranged);
+    if !missing.is_empty() {
+        return Err(format!("never reached: {}", missing.join(", ")));
+    }
+    println!("differential: ok");
+    Ok(())
+}
+
+/// What a run must reach and did not.
+fn missing(reached: &Reached, held: &Held, arranged: &arranging::Reached) -> Vec<String> {
     let mut missing = reached.tally.missing();
     if reached.claims.within_share_and_full == 0 || reached.claims.thefts_and_refusals == 0 {
         missing.push("a case of demand 3".to_string());
+    }
+    if reached.claims.drums_within_share_by_group == 0 {
+        missing.push("a case of demand 3 on a rhythm channel 11".to_string());
     }
     if reached.claims.at_most_thefts == 0 || held.at_the_bound == 0 {
         missing.push("the most thefts that there can be".to_string());
     }
     missing.extend(reached.pages.missing());
     missing.extend(arranged.missing());
-    if !missing.is_empty() {
-        return Err(format!("never reached: {}", missing.join(", ")));
-    }
-    println!("differential: ok");
-    Ok(())
+    missing
 }
 
 /// Logs of songs, each given to both sides whole and in parts.
@@ -288,6 +299,9 @@ fn rubbish(seed: u64) -> Result<(), String> {
     println!(
         "{RECORDS} records and as many logs full of rubbish: every call returned and wrote nothing beside them"
     );
+    let queried = library::rhythm_of_rubbish(&mut Random::new(seed), RECORDS);
+    queried.map_err(|found| format!("rhythm query: a record full of rubbish: {found}"))?;
+    println!("{RECORDS} such records asked for their rhythm channels, each for all 256 numbers");
     let survived = library::survive_pages(&mut Random::new(seed), RECORDS);
     survived.map_err(|found| format!("the page of a record full of rubbish: {found}"))?;
     println!("{RECORDS} calls for pages of such records: 17 lines or number 18, and nothing else written");
@@ -308,10 +322,13 @@ fn print(reached: &Reached, seconds: f64) {
     );
     print!("{}", reached.tally);
     println!(
-        "demand 3: {} note-ons within share, {} of them with every generator taken; \
+        "demand 3: {} note-ons within share, {} of them with every generator taken, \
+         {} of these on a rhythm channel 11, where {} fit by their group alone; \
          {} thefts and refusals justified",
         reached.claims.within_share,
         reached.claims.within_share_and_full,
+        reached.claims.drums_within_share_and_full,
+        reached.claims.drums_within_share_by_group,
         reached.claims.thefts_and_refusals
     );
     println!(

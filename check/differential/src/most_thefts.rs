@@ -21,7 +21,7 @@ pub struct Held {
     pub at_the_bound: u64,
 }
 
-const KINDS: [Kind; 7] = [
+const KINDS: [Kind; 8] = [
     Kind::Noise,
     Kind::Playing,
     Kind::Pedals,
@@ -29,6 +29,7 @@ const KINDS: [Kind; 7] = [
     Kind::Faults,
     Kind::Song,
     Kind::Thefts,
+    Kind::SecondDrums,
 ];
 /// Lists of each kind for each P, and about so many events in each.
 const LISTS: usize = 4;

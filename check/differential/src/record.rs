@@ -69,7 +69,9 @@ pub struct Record {
     pub polyphony: u8,
     pub id: u8,
     pub entries: Items<Entry, 16>,
-    pub channels: [[u8; 11]; 16],
+    pub channels: [[u8; 13]; 16],
+    /// The kind of channel 11: rhythm, or melody.
+    pub second_drums: bool,
     /// Generators P and above are idle ones.
     pub generators: [GeneratorView; MOST_GENERATORS],
     pub oldest_first: Items<u8, MOST_GENERATORS>,
@@ -88,6 +90,7 @@ pub fn difference(a: &Record, b: &Record) -> Option<String> {
         field("ID", &a.id, &b.id),
         field("table", &a.entries.as_slice(), &b.entries.as_slice()),
         first_of("numbers of channel", 1, &a.channels, &b.channels),
+        field("channel 11 rhythm", &a.second_drums, &b.second_drums),
         first_of("generator", 0, &a.generators, &b.generators),
         field(
             "order of age",
@@ -121,6 +124,7 @@ pub trait Implementation: Clone {
     fn generator(&self, generator: u8) -> Given<Result<GeneratorView, Number>>;
     fn masked(&self, channel: u8) -> Given<Result<bool, Number>>;
     fn share(&self, channel: u8) -> Given<Result<u8, Number>>;
+    fn rhythm(&self, channel: u8) -> Given<bool>;
     /// Writes the service page to the memory's buffer. It may be written to, so that one that is can be found.
     fn page(&mut self, memory: &mut Memory) -> Given<Result<(), Number>>;
     /// The gains of a channel on the wire, 0 to 15.

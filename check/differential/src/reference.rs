@@ -70,6 +70,10 @@ impl Implementation for Device {
         Ok(Device::share(self, channel))
     }
 
+    fn rhythm(&self, channel: u8) -> Given<bool> {
+        Ok(Device::rhythm(self, channel))
+    }
+
     fn page(&mut self, memory: &mut Memory) -> Given<Result<(), Number>> {
         Ok(Device::page(self, memory.buffer()))
     }
@@ -94,6 +98,7 @@ impl Implementation for Device {
             id: self.id(),
             entries: Items::new(Entry::default(), self.table().entries().iter().copied()),
             channels: self.channels().map(|channel| channel.numbers()),
+            second_drums: self.second_drums(),
             generators,
             oldest_first: Items::new(0, self.oldest_first()),
             progress,

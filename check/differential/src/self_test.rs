@@ -1,6 +1,6 @@
 //! Shows that the comparison can fail: deliberately wrong implementations and books must be found.
 
-use crate::book::{Slip, SLIPS, WRONG_BOUNDS, WRONG_THEFTS};
+use crate::book::{Slip, SLIPS, SLIPS_OF_KINDS, WRONG_BOUNDS, WRONG_THEFTS};
 use crate::compare::{Comparison, Failure};
 use crate::record::Given;
 use crate::{
@@ -44,9 +44,9 @@ const SHARED: [(&str, &str); 23] = [
 ];
 
 /// Such mistakes about what a theft takes, each with the claim that finds it.
-const SHARED_THEFTS: [(&str, &str); 22] = [
-    ("NewNoteNotCounted", OTHER_CHANNEL),
-    ("HighestPriorityLoses", NOTE_TO_STEAL),
+const SHARED_THEFTS: [(&str, &str); 24] = [
+    ("NewNoteNotCounted", OTHER_CHANNEL_OR_NONE),
+    ("HighestPriorityLoses", OTHER_CHANNEL_OR_NONE),
     ("AnotherLoserSought", OTHER_CHANNEL),
     ("ChannelWithPedalNoteLoses", OTHER_CHANNEL),
     ("OldestSustainedOverShareStolen", OTHER_CHANNEL),
@@ -67,8 +67,12 @@ const SHARED_THEFTS: [(&str, &str); 22] = [
     ("LastKeyUpStolen", OLDER_SPARED),
     ("OnlyHeldStolen", PEDAL_NOTE_SPARED),
     ("OnlySustainedStolen", NOTE_TO_STEAL),
+    ("DrumsOfElevenNotCounted", OTHER_CHANNEL_OR_NONE),
+    ("DrumsOfElevenNeverStolen", NOTE_TO_STEAL),
 ];
 const OTHER_CHANNEL: &str = "R5.8: ";
+/// By one of the two, whichever the lists come to first.
+const OTHER_CHANNEL_OR_NONE: &str = "R5.";
 const PEDAL_NOTE_SPARED: &str = "down, is stolen although its channel had a note on the pedal";
 const OLDER_SPARED: &str = "is stolen, and the oldest one is on generator";
 const NOTE_TO_STEAL: &str = "R5.10: number 11 although channel";
@@ -103,6 +107,115 @@ const SHARED_MODE: [&str; 27] = [
     "MonoForAsManyChannels",
     "MonoKeepsNewest",
 ];
+
+/// Such mistakes about the bank and the kind of channel 11, found by demand 3 alone: without a look at rhythm queries,
+/// or at what a theft takes.
+const SHARED_KINDS: [&str; 92] = [
+    "ElevenStartsInRhythmBank",
+    "EveryChannelStartsInRhythmBank",
+    "ElevenStartsAsRhythm",
+    "SystemOnKeepsKind",
+    "SystemOnKeepsBanks",
+    "BankMsbNotStored",
+    "BankBytesSwapped",
+    "OtherBanksDropped",
+    "ResetControllersResetsBank",
+    "ResetControllersResetsBankMsb",
+    "KindByBankAlone",
+    "NotesReleasedByBank",
+    "AnyChannelsBankTakenForElevens",
+    "MaskedBanksDropped",
+    "RhythmWithoutEleven",
+    "ElevenAlwaysRhythm",
+    "ElevenRhythmByItsBank",
+    "TenMelodyWhileElevenIsRhythm",
+    "TenMelodyInMelodyBank",
+    "TenMadeMelody",
+    "AnyChannelMadeRhythm",
+    "TwelveMadeRhythmToo",
+    "MaskedProgramsDropped",
+    "EveryProgramOfElevenReleases",
+    "EveryProgramOfTenReleases",
+    "EveryProgramReleases",
+    "KindByProgramOfAnyChannel",
+    "KindByProgramOfTen",
+    "KindByAnyChannelsBankAndProgram",
+    "KindByBankOfTen",
+    "KindByBankOfOne",
+    "KindByBankOfTwelve",
+    "KindByBankLsb",
+    "KindByProgram",
+    "BanksSwapped",
+    "OtherBanksMakeMelody",
+    "OtherBanksMakeRhythm",
+    "Bank0MakesMelody",
+    "Bank127MakesRhythm",
+    "BanksBelowMakeRhythmAboveMelody",
+    "KindNeedsLsb0",
+    "KindNeedsProgram0",
+    "TwelveTakenForEleven",
+    "MaskedElevenKeepsKind",
+    "BusyElevenKeepsKind",
+    "RhythmForGood",
+    "BankUsedUpByProgram",
+    "RhythmTurnsToMelody",
+    "MelodyBankIgnored",
+    "NotesReleasedWithoutChangeOfKind",
+    "ChangeOfKindLiftsPedal",
+    "ChangeOfKindResetsControllers",
+    "ChangeOfKindResetsChannel",
+    "NotesKeptAtChangeOfKind",
+    "PedalNotesKeptAtChangeOfKind",
+    "KeysDownKeptAtChangeOfKind",
+    "KeysUpAtChangeOfKind",
+    "NotesKeptWhenMadeRhythm",
+    "NotesKeptWhenMadeMelody",
+    "ChangeOfKindReleasesTenToo",
+    "ChangeOfKindReleasesAll",
+    "ChangeOfKindReleasesTenInstead",
+    "GroupGoesOnOnEleven",
+    "GroupOnMelodyEleven",
+    "GroupByRhythmBank",
+    "GroupOnEveryChannel",
+    "GroupsAcrossChannels",
+    "GroupsOfTenReachEleven",
+    "GroupsOfElevenReachTen",
+    "GroupsReachMelodyEleven",
+    "GroupsOfTenAlone",
+    "SameDrumOfElevenGoesOn",
+    "NoteOffEndsDrumsOfEleven",
+    "NoteOffIgnoredOnMelodyEleven",
+    "NoteOffIgnoredInRhythmBank",
+    "PedalSustainsDrumsOfEleven",
+    "VelocityZeroEndsDrumsOfEleven",
+    "HoldOfElevenHonoured",
+    "HoldOfMelodyElevenIgnored",
+    "HoldIgnoredInRhythmBank",
+    "AllNotesOffHonoursHoldOfEleven",
+    "ModeMessagesHonourHoldOfEleven",
+    "AllNotesOffSparesDrumsOfEleven",
+    "ModeMessagesSpareDrumsOfEleven",
+    "AllNotesOffOnTenEndsElevensToo",
+    "ResetControllersMakesMelody",
+    "ResetControllersChangesKind",
+    "NewTableMakesMelody",
+    "NewTableChangesKind",
+    "NewTableResetsBanks",
+    "MaskedDrumsOfElevenGoOn",
+    "DrumsOfElevenCountedForTen",
+];
+
+/// Such mistakes of the rhythm query, found by the book's kind.
+const SHARED_QUERIES: [(&str, &str); 7] = [
+    ("RhythmQueryOnTheWire", BOOK_KNOWS),
+    ("RhythmQueryOfAnyNumber", BOOK_KNOWS),
+    ("RhythmQueryWithoutEleven", BOOK_KNOWS),
+    ("RhythmQueryOfElevenAlone", BOOK_KNOWS),
+    ("RhythmQueryByBank", BOOK_KNOWS),
+    ("RhythmQueryOfUnmaskedAlone", BOOK_KNOWS),
+    ("RhythmQueryOfNoneIsRhythm", BOOK_KNOWS),
+];
+const BOOK_KNOWS: &str = "rhythm query: ";
 
 /// A wrong variant: by a fault of paper's rules, by a slip beside them, or by both.
 #[derive(Clone, Copy)]
@@ -156,15 +269,18 @@ fn wrong_devices(seed: u64) -> Vec<String> {
     if let (_, Some(failure)) = right.run(seed, WITHIN) {
         complaints.push(format!("no mistake at all: {failure}"));
     }
-    let devices = variants(wrong::DEVICE, &wrong_device::GAINS_SLIPS);
+    let faults = [wrong::DEVICE, wrong::SECOND_DRUMS].concat();
+    let devices = variants(&faults, &wrong_device::GAINS_SLIPS);
     for variant in &devices {
         complaints.extend(expect(variant.name, "", one_side(variant, seed)));
     }
     let shared_mode = SHARED_MODE.map(|name| (name, "the book has"));
-    let shared = SHARED.into_iter().chain(shared_mode);
+    let shared_kinds = SHARED_KINDS.map(|name| (name, "demand 3"));
+    let shared = SHARED.into_iter().chain(shared_mode).chain(shared_kinds);
     let shared = shared.map(|row| (row, Some(Slip::Thefts)));
-    let shared_thefts = SHARED_THEFTS.map(|row| (row, None));
-    for ((name, claim), slip) in shared.chain(shared_thefts) {
+    let without_slip = SHARED_THEFTS.into_iter().chain(SHARED_QUERIES);
+    let without_slip = without_slip.map(|row| (row, None));
+    for ((name, claim), slip) in shared.chain(without_slip) {
         let variant = devices.iter().find(|variant| variant.name == name);
         let found = variant.and_then(|variant| both_sides(variant, slip, seed));
         complaints.extend(expect(&format!("{name} on both sides"), claim, found));
@@ -174,9 +290,10 @@ fn wrong_devices(seed: u64) -> Vec<String> {
 
 /// Books that forget a rule, and claims in a wrong form, beside right devices.
 fn wrong_books(seed: u64) -> Vec<String> {
-    let books = SLIPS.map(|slip| (slip, "demand 3"));
+    let books = SLIPS.into_iter().chain(SLIPS_OF_KINDS);
+    let books = books.map(|slip| (slip, "demand 3"));
     let bounds = WRONG_BOUNDS.map(|slip| (slip, "R13.2"));
-    let wrong = books.into_iter().chain(bounds).chain(WRONG_THEFTS);
+    let wrong = books.chain(bounds).chain(WRONG_THEFTS);
     let expected = |(slip, claim)| {
         let name = format!("book with {slip:?} wrong");
         expect(&name, claim, wrong_book(slip, seed))

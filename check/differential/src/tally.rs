@@ -1,7 +1,8 @@
-//! Counts what was reached: every kind of answer and every number must be, and what reports, mode messages and thefts
-//! can find.
+//! Counts what was reached: every kind of answer and every number must be, and what reports, mode messages, thefts and
+//! channel 11 can find.
 
 use crate::drums::DRUM_CHANNEL;
+use crate::eleven_tally::ElevenTally;
 use crate::record::Record;
 use paper::{Answer, GeneratorView, Number, State, Was};
 use std::fmt;
@@ -73,6 +74,7 @@ pub struct Tally {
     /// Thefts of a pedal note whose channel had an older one held, and those of a held one while another channel had
     /// pedal notes: without R5.9, or with pedal notes sought everywhere, another would have gone.
     thefts: [u64; 4],
+    pub eleven: ElevenTally,
     /// Numbers that starts, bytes and reports answered.
     numbers: [u64; PLACES],
     /// Numbers that queries, pitches, gains, songs, logs and pages gave, apart: 1 and 12 have both.
@@ -165,6 +167,8 @@ impl Tally {
         let kinds = kinds.chain(REPORTS.iter().zip(self.reports));
         let kinds = kinds.chain(MODE_MESSAGES.iter().zip(self.mode_messages));
         let kinds = kinds.chain(THEFTS.iter().zip(self.thefts));
+        let kinds = kinds.map(|(&name, count)| (name, count));
+        let kinds = kinds.chain(self.eleven.rows());
         let kinds = kinds.map(|(name, count)| (name.to_string(), count));
         let numbers = NUMBERS[..13].iter();
         let numbers = numbers.map(move |&named| row(named, &self.numbers));
@@ -184,6 +188,6 @@ impl Tally {
 impl fmt::Display for Tally {
     fn fmt(&self, f: &mut fmt::Formatter<'_>) -> fmt::Result {
         self.rows()
-            .try_for_each(|(name, count)| writeln!(f, "{name:28} {count:>9}"))
+            .try_for_each(|(name, count)| writeln!(f, "{name:30} {count:>9}"))
     }
 }

@@ -1,7 +1,7 @@
 //! Writes dense streams of messages: notes, pedals, controllers, MIP messages, resets, reports, and
 //! whatever may go wrong on a wire.
 
-use crate::drums::DRUM_CHANNEL;
+use crate::drums::{DRUM_CHANNEL, SECOND_DRUM_CHANNEL};
 use crate::lists::{pick_weighted, some_generator, Event};
 use random::Random;
 
@@ -15,6 +15,10 @@ pub enum Phrase {
     ChannelMode,
     ProgramOrPressureOrBend,
     BendSensitivity,
+    Bank,
+    Program,
+    SecondDrums,
+    EndOnEleven,
     Report,
     Mip,
     WrongMip,
@@ -37,6 +41,7 @@ pub const PLAYING: Mix = &[
     (10, Phrase::Controller),
     (10, Phrase::ChannelMode),
     (8, Phrase::ProgramOrPressureOrBend),
+    (5, Phrase::SecondDrums),
     (60, Phrase::Report),
     (4, Phrase::Mip),
     (1, Phrase::WrongMip),
@@ -52,6 +57,9 @@ pub const PEDALS: Mix = &[
     (80, Phrase::ChannelMode),
     (40, Phrase::ProgramOrPressureOrBend),
     (40, Phrase::BendSensitivity),
+    (10, Phrase::Bank),
+    (10, Phrase::Program),
+    (10, Phrase::SecondDrums),
     (60, Phrase::Report),
     (3, Phrase::Mip),
     (1, Phrase::Reset),
@@ -64,6 +72,7 @@ pub const TABLES: Mix = &[
     (40, Phrase::Pedal),
     (20, Phrase::Controller),
     (10, Phrase::ChannelMode),
+    (10, Phrase::SecondDrums),
     (40, Phrase::Report),
     (60, Phrase::Mip),
     (30, Phrase::WrongMip),
@@ -77,6 +86,7 @@ pub const FAULTS: Mix = &[
     (50, Phrase::NoteOff),
     (20, Phrase::Pedal),
     (20, Phrase::Controller),
+    (5, Phrase::SecondDrums),
     (60, Phrase::Report),
     (20, Phrase::Mip),
     (80, Phrase::WrongMip),
@@ -89,7 +99,23 @@ pub const FAULTS: Mix = &[
     (50, Phrase::StrayData),
 ];
 
-/// Keys on channel 10: those of the exclusive groups and a few others.
+/// Channels 10 and 11 with few others, and often what tells the kind of 11.
+pub const SECOND_DRUMS: Mix = &[
+    (400, Phrase::NoteOn),
+    (100, Phrase::NoteOff),
+    (60, Phrase::Pedal),
+    (20, Phrase::Controller),
+    (40, Phrase::ChannelMode),
+    (40, Phrase::Bank),
+    (40, Phrase::Program),
+    (80, Phrase::SecondDrums),
+    (100, Phrase::EndOnEleven),
+    (60, Phrase::Report),
+    (10, Phrase::Mip),
+    (5, Phrase::Reset),
+];
+
+/// Keys on channels 10 and 11: those of the exclusive groups and a few others.
 const DRUM_KEYS: [u8; 14] = [36, 38, 40, 42, 44, 46, 71, 72, 73, 74, 78, 79, 80, 81];
 
 pub struct Writer<'a> {
@@ -129,6 +155,15 @@ impl Writer<'_> {
         }
     }
 
+    /// One with channels 10 and 11 and two others.
+    pub fn of_drums(random: &mut Random, start: (u8, u8)) -> Writer<'_> {
+        let others = [random.below(9) as u8, random.pick(&[11, 11, 12, 15])];
+        let channels = [DRUM_CHANNEL, SECOND_DRUM_CHANNEL, SECOND_DRUM_CHANNEL].into_iter();
+        let mut writer = Writer::new(random, start);
+        writer.channels = channels.chain(others).collect();
+        writer
+    }
+
     pub fn phrase(&mut self, mix: Mix) {
         match pick_weighted(self.random, mix) {
             Phrase::NoteOn => self.note_on(),
@@ -138,6 +173,10 @@ impl Writer<'_> {
             Phrase::ChannelMode => self.channel_mode(),
             Phrase::ProgramOrPressureOrBend => self.program_or_pressure_or_bend(),
             Phrase::BendSensitivity => self.bend_sensitivity(),
+            Phrase::Bank => self.bank(),
+            Phrase::Program => self.program(),
+            Phrase::SecondDrums => self.second_drums(),
+            Phrase::EndOnEleven => self.end_on_eleven(),
             Phrase::Report => self.report(),
             Phrase::Mip => self.mip(),
             Phrase::WrongMip => self.wrong_mip(),
@@ -188,7 +227,8 @@ impl Writer<'_> {
     }
 
     fn key(&mut self, channel: u8) -> u8 {
-        if channel == DRUM_CHANNEL && !self.random.one_in(8) {
+        let drums = [DRUM_CHANNEL, SECOND_DRUM_CHANNEL].contains(&channel);
+        if drums && !self.random.one_in(8) {
             return self.random.pick(&DRUM_KEYS);
         }
         self.random.below(self.keys) as u8
@@ -227,7 +267,7 @@ impl Writer<'_> {
 
     fn controller(&mut self) {
         let channel = self.channel();
-        let stored = [1, 6, 7, 10, 11, 32, 38, 64, 65, 98, 99, 100, 101, 122];
+        let stored = [0, 1, 6, 7, 10, 11, 32, 38, 64, 65, 98, 99, 100, 101, 122];
         let number = match self.random.below(4) {
             0 => self.random.data(),
             _ => self.random.pick(&stored),
@@ -267,6 +307,73 @@ impl Writer<'_> {
         self.message(status, &[101, 0]);
         self.message(status, &[100, lsb]);
         self.message(status, &[6, value]);
+    }
+
+    /// Mostly 11, else a channel that plays.
+    fn mostly_eleven(&mut self) -> u8 {
+        match self.random.one_in(4) {
+            true => self.channel(),
+            false => SECOND_DRUM_CHANNEL,
+        }
+    }
+
+    /// A byte of a bank, mostly one that tells a kind as an MSB.
+    fn bank(&mut self) {
+        let (channel, number) = (self.mostly_eleven(), self.random.pick(&[0, 0, 0, 32]));
+        let value = match self.random.below(8) {
+            0 => self.random.data(),
+            1 => self.random.pick(&[0, 119, 122, 127]),
+            _ => self.random.pick(&[120, 121]),
+        };
+        self.message(0xB0 | channel, &[number, value]);
+    }
+
+    fn program(&mut self) {
+        let channel = self.mostly_eleven();
+        self.program_of(channel);
+    }
+
+    /// At times one that would be a bank.
+    fn program_of(&mut self, channel: u8) {
+        let program = match self.random.one_in(4) {
+            true => self.random.pick(&[0, 120, 121]),
+            false => self.random.data(),
+        };
+        self.message(0xC0 | channel, &[program]);
+    }
+
+    /// A bank and then a program of channel 11, seldom of another, with a note or a pedal of it between; at times the
+    /// bank waits for a program.
+    fn second_drums(&mut self) {
+        let key = self.random.pick(&DRUM_KEYS);
+        let channel = match self.random.one_in(6) {
+            true => self.channel(),
+            false => SECOND_DRUM_CHANNEL,
+        };
+        let msb = self.random.pick(&[120, 120, 120, 121, 121, 0]);
+        self.message(0xB0 | channel, &[0, msb]);
+        match self.random.below(8) {
+            0 => self.message(0x90 | channel, &[key, 64]),
+            1 => self.message(0x80 | channel, &[key, 64]),
+            2 => self.message(0xB0 | channel, &[64, 127]),
+            3 | 4 => return,
+            _ => {}
+        }
+        self.program_of(channel);
+    }
+
+    /// What ends notes on channel 11, or leaves its drums alone.
+    fn end_on_eleven(&mut self) {
+        let (channel, key) = (SECOND_DRUM_CHANNEL, self.random.pick(&DRUM_KEYS));
+        let (mode, value) = (124 + self.random.below(4) as u8, self.value());
+        match self.random.below(10) {
+            0 => self.message(0xB0 | channel, &[121, 0]),
+            1 | 2 => self.message(0xB0 | channel, &[123, 0]),
+            3 => self.message(0xB0 | channel, &[mode, value]),
+            4 => self.message(0xB0 | channel, &[64, value]),
+            5 => self.message(0x90 | channel, &[key, 0]),
+            _ => self.message(0x80 | channel, &[key, 64]),
+        }
     }
 
     fn report(&mut self) {

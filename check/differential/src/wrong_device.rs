@@ -108,6 +108,7 @@ pub fn record_of(device: &wrong::Device) -> Record {
         id: device.id(),
         entries: Items::new(Entry::default(), device.table().entries().iter().map(entry)),
         channels: device.channels().map(|channel| channel.numbers()),
+        second_drums: device.second_drums(),
         generators: std::array::from_fn::<_, MOST_GENERATORS, _>(view),
         oldest_first: Items::new(0, device.oldest_first()),
         progress,
@@ -134,6 +135,10 @@ impl Implementation for WrongDevice {
 
     fn share(&self, channel: u8) -> Given<Result<u8, Number>> {
         Ok(self.device.share(channel))
+    }
+
+    fn rhythm(&self, channel: u8) -> Given<bool> {
+        Ok(self.device.rhythm(channel))
     }
 
     fn page(&mut self, memory: &mut Memory) -> Given<Result<(), Number>> {

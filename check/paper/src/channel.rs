@@ -1,12 +1,14 @@
-//! What a channel remembers, its eleven numbers (R1.8), and what controllers do to them.
+//! What a channel remembers, its thirteen numbers (R1.8), and what controllers do to them.
 
 /// Controller numbers of MIDI 1.0 that the device stores or acts on.
 pub(crate) mod controller {
+    pub const BANK_MSB: u8 = 0;
     pub const MODULATION: u8 = 1;
     pub const DATA_ENTRY_MSB: u8 = 6;
     pub const VOLUME: u8 = 7;
     pub const PAN: u8 = 10;
     pub const EXPRESSION: u8 = 11;
+    pub const BANK_LSB: u8 = 32;
     pub const HOLD: u8 = 64;
     pub const NRPN_LSB: u8 = 98;
     pub const NRPN_MSB: u8 = 99;
@@ -24,7 +26,11 @@ const WIDEST_BEND: u8 = 24;
 /// The value of an RPN number that names no parameter.
 const RPN_NULL: u8 = 127;
 
-/// The eleven numbers in the order of R1.8.
+/// The bank MSB of rhythm and of melody, as in General MIDI 2.
+pub(crate) const RHYTHM_BANK: u8 = 120;
+pub(crate) const MELODY_BANK: u8 = 121;
+
+/// The thirteen numbers in the order of R1.8.
 #[derive(Clone, Copy, Debug, PartialEq, Eq)]
 pub struct Channel {
     pub program: u8,
@@ -38,10 +44,12 @@ pub struct Channel {
     pub bend_msb: u8,
     pub bend_lsb: u8,
     pub bend_sensitivity: u8,
+    pub bank_msb: u8,
+    pub bank_lsb: u8,
 }
 
 impl Channel {
-    /// R1.9: how every channel starts.
+    /// R1.9: how every channel but 10 starts.
     pub const FRESH: Channel = Channel {
         program: 0,
         modulation: 0,
@@ -54,6 +62,14 @@ impl Channel {
         bend_msb: 64,
         bend_lsb: 0,
         bend_sensitivity: 2,
+        bank_msb: MELODY_BANK,
+        bank_lsb: 0,
+    };
+
+    /// R1.9: how channel 10 starts.
+    pub const FRESH_DRUMS: Channel = Channel {
+        bank_msb: RHYTHM_BANK,
+        ..Channel::FRESH
     };
 
     /// Is the pedal down (R6.3)?
@@ -61,13 +77,16 @@ impl Channel {
         self.hold >= 64
     }
 
-    /// Stores a controller's value (R6.6, R6.8, R6.9). Every other controller changes none of the eleven (R6.13).
+    /// Stores a controller's value (R6.6, R6.8, R6.9). Every other controller changes none of the thirteen (R6.13).
+    #[inline]
     pub(crate) fn store(&mut self, number: u8, value: u8) {
         match number {
+            controller::BANK_MSB => self.bank_msb = value,
             controller::MODULATION => self.modulation = value,
             controller::VOLUME => self.volume = value,
             controller::PAN => self.pan = value,
             controller::EXPRESSION => self.expression = value,
+            controller::BANK_LSB => self.bank_lsb = value,
             controller::HOLD => self.hold = value,
             controller::RPN_LSB => self.rpn_lsb = value,
             controller::RPN_MSB => self.rpn_msb = value,
@@ -79,7 +98,7 @@ impl Channel {
         }
     }
 
-    /// R6.11: what 121 resets.
+    /// R6.11: what 121 resets; the bank is not among it.
     pub(crate) fn reset_controllers(&mut self) {
         self.modulation = Self::FRESH.modulation;
         self.expression = Self::FRESH.expression;
@@ -94,8 +113,8 @@ impl Channel {
         self.rpn_lsb = RPN_NULL;
     }
 
-    /// The eleven numbers as an array, in the order of R1.8.
-    pub fn numbers(&self) -> [u8; 11] {
+    /// The thirteen numbers as an array, in the order of R1.8.
+    pub fn numbers(&self) -> [u8; 13] {
         [
             self.program,
             self.modulation,
@@ -108,6 +127,8 @@ impl Channel {
             self.bend_msb,
             self.bend_lsb,
             self.bend_sensitivity,
+            self.bank_msb,
+            self.bank_lsb,
         ]
     }
 }

@@ -1,15 +1,24 @@
 //! The device: start, bytes, reports and queries.
 
 use crate::answer::{Answer, Number, Was};
-use crate::channel::{controller, Channel};
+use crate::channel::{controller, Channel, MELODY_BANK, RHYTHM_BANK};
 use crate::generators::{GeneratorView, Generators};
 use crate::parser::{Completed, Parser, HEAD_BYTES};
 use crate::table::Table;
 
-/// Channel 10 on the wire.
+/// Channel 10 on the wire, always a rhythm channel (R5.12).
 const DRUM_CHANNEL: u8 = 9;
+/// Channel 11 on the wire, which can be one.
+const SECOND_DRUM_CHANNEL: u8 = 10;
 /// The *d* that speaks to every device.
 const EVERY_DEVICE: u8 = 0x7F;
+
+/// R1.9: how the sixteen channels start.
+const FRESH_CHANNELS: [Channel; 16] = {
+    let mut channels = [Channel::FRESH; 16];
+    channels[DRUM_CHANNEL as usize] = Channel::FRESH_DRUMS;
+    channels
+};
 
 /// The device record.
 #[derive(Clone, Copy, Debug)]
@@ -19,6 +28,8 @@ pub struct Device {
     parser: Parser,
     table: Table,
     channels: [Channel; 16],
+    /// The kind of channel 11 (R1.14): rhythm, or melody.
+    second_drums: bool,
     generators: Generators,
 }
 
@@ -41,7 +52,8 @@ impl Device {
             id,
             parser: Parser::FRESH,
             table: Table::starting(polyphony),
-            channels: [Channel::FRESH; 16],
+            channels: FRESH_CHANNELS,
+            second_drums: false,
             generators: Generators::idle(polyphony),
         }
     }
@@ -82,7 +94,7 @@ impl Device {
             0x90 if second > 0 => return self.note_on(channel, first),
             0x80 | 0x90 => self.note_off(channel, first),
             0xB0 => self.controller(channel, first, second),
-            0xC0 => numbers.program = first,
+            0xC0 => self.program(channel, first),
             0xE0 => {
                 numbers.bend_lsb = first;
                 numbers.bend_msb = second;
@@ -104,7 +116,7 @@ impl Device {
             return refused(Number::ChannelMasked);
         }
         self.generators.release_key(channel, key);
-        if channel == DRUM_CHANNEL {
+        if self.is_rhythm(channel) {
             self.generators.silence_group(channel, key);
         }
         let (generator, was) = if let Some(generator) = self.generators.lowest_idle() {
@@ -135,19 +147,44 @@ impl Device {
         self.generators.to_steal(loser)
     }
 
-    /// R6.2; R6.4: on channel 10 it does nothing.
+    /// Is a channel on the wire a rhythm channel (R5.12)?
+    #[inline]
+    fn is_rhythm(&self, channel: u8) -> bool {
+        channel == DRUM_CHANNEL || channel == SECOND_DRUM_CHANNEL && self.second_drums
+    }
+
+    /// R6.2; R6.4: on a rhythm channel it does nothing.
     fn note_off(&mut self, channel: u8, key: u8) {
-        if channel != DRUM_CHANNEL {
+        if !self.is_rhythm(channel) {
             let pedal_down = self.channels[usize::from(channel)].pedal_down();
             self.generators.key_up(channel, key, pedal_down);
         }
     }
 
-    /// R6.12: on channel 10 the pedal holds nothing.
+    /// R6.12: on a rhythm channel the pedal holds nothing.
     fn all_notes_off(&mut self, channel: u8) {
         let pedal_down = self.channels[usize::from(channel)].pedal_down();
         self.generators
-            .all_keys_up(channel, pedal_down && channel != DRUM_CHANNEL);
+            .all_keys_up(channel, pedal_down && !self.is_rhythm(channel));
+    }
+
+    /// A program change stores the program (R6.5). On channel 11 its bank then tells the kind (R6.15).
+    fn program(&mut self, channel: u8, program: u8) {
+        let numbers = &mut self.channels[usize::from(channel)];
+        numbers.program = program;
+        match (channel, numbers.bank_msb) {
+            (SECOND_DRUM_CHANNEL, RHYTHM_BANK) => self.set_second_drums(true),
+            (SECOND_DRUM_CHANNEL, MELODY_BANK) => self.set_second_drums(false),
+            _ => {}
+        }
+    }
+
+    /// R6.16: where the kind is another one then, who is busy on channel 11 releases.
+    fn set_second_drums(&mut self, rhythm: bool) {
+        if rhythm != self.second_drums {
+            self.second_drums = rhythm;
+            self.generators.release_channel(SECOND_DRUM_CHANNEL);
+        }
     }
 
     fn controller(&mut self, channel: u8, number: u8, value: u8) {
@@ -208,7 +245,7 @@ impl Device {
     }
 }
 
-/// The queries (R7.3 to R7.6).
+/// The queries (R7.3 to R7.7).
 impl Device {
     /// A generator's state, channel (from 1) and key.
     pub fn generator(&self, generator: u8) -> Result<GeneratorView, Number> {
@@ -226,6 +263,11 @@ impl Device {
     /// The share of a channel, 1 to 16, 0 for a masked one (R7.6).
     pub fn share(&self, channel: u8) -> Result<u8, Number> {
         Ok(self.table.share(wire(channel)?).unwrap_or(0))
+    }
+
+    /// Whether a channel is a rhythm channel; what is not 1 to 16 is none (R7.7).
+    pub fn rhythm(&self, channel: u8) -> bool {
+        wire(channel).is_ok_and(|channel| self.is_rhythm(channel))
     }
 }
 
@@ -269,6 +311,11 @@ impl Device {
 
     pub fn channels(&self) -> &[Channel; 16] {
         &self.channels
+    }
+
+    /// Is channel 11 of the kind rhythm?
+    pub fn second_drums(&self) -> bool {
+        self.second_drums
     }
 
     /// The sounding generators, the oldest first.

@@ -1,4 +1,4 @@
-//! The exclusive groups of channel 10 (R5.4).
+//! The exclusive groups of a rhythm channel (R5.4).
 
 /// Each drum key that excludes others, with the number of its group.
 const GROUPS: [(u8, u8); 11] = [

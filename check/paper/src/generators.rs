@@ -198,7 +198,7 @@ impl Generators {
         self.release(self.sustained & self.of_channel[usize::from(channel)]);
     }
 
-    /// The channel is masked (R2.8): its busy generators release, whatever the pedal.
+    /// The channel is masked (R2.8) or of another kind (R6.16): its busy generators release, whatever the pedal.
     pub(crate) fn release_channel(&mut self, channel: u8) {
         self.release(self.busy() & self.of_channel[usize::from(channel)]);
     }

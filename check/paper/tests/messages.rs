@@ -5,22 +5,24 @@ mod common;
 use common::*;
 use paper::{Answer, State, Was};
 
-/// One of the eleven numbers of channel 1 after these bytes.
-fn numbers_after(hex: &str) -> [u8; 11] {
+/// The thirteen numbers of channel 1 after these bytes.
+fn numbers_after(hex: &str) -> [u8; 13] {
     let mut device = start(4, 0);
     feed(&mut device, hex);
     device.channels()[0].numbers()
 }
 
-const FRESH: [u8; 11] = [0, 0, 100, 64, 127, 0, 127, 127, 64, 0, 2];
+const FRESH: [u8; 13] = [0, 0, 100, 64, 127, 0, 127, 127, 64, 0, 2, 121, 0];
 
 #[test]
-fn the_eleven_numbers() {
+fn the_thirteen_numbers() {
     assert_eq!(numbers_after(""), FRESH);
-    let stored = "C0 05 B0 01 11 07 12 0A 13 0B 14 40 3F 65 00 64 00 06 0C E0 16 17";
-    let all = [5, 0x11, 0x12, 0x13, 0x14, 0x3F, 0, 0, 0x17, 0x16, 12];
+    let stored = "C0 05 B0 01 11 07 12 0A 13 0B 14 40 3F 65 00 64 00 06 0C 00 18 20 19 E0 16 17";
+    let all = [
+        5, 0x11, 0x12, 0x13, 0x14, 0x3F, 0, 0, 0x17, 0x16, 12, 0x18, 0x19,
+    ];
     assert_eq!(numbers_after(stored), all);
-    let reset = [5, 0, 0x12, 0x13, 127, 0, 127, 127, 64, 0, 12];
+    let reset = [5, 0, 0x12, 0x13, 127, 0, 127, 127, 64, 0, 12, 0x18, 0x19];
     assert_eq!(numbers_after(&format!("{stored} B0 79 00")), reset);
     assert_eq!(numbers_after(&format!("{stored} B0 79 01")), all);
 }

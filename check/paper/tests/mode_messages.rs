@@ -101,10 +101,12 @@ fn nothing_else_changes_on_any_channel() {
 }
 
 #[test]
-fn none_of_the_eleven_numbers_changes() {
+fn none_of_the_thirteen_numbers_changes() {
     // Each is another than at the start.
-    let stored = "C0 05 B0 01 11 07 12 0A 13 0B 14 40 7F 65 00 64 00 06 0C E0 16 17";
-    let numbers = [5, 0x11, 0x12, 0x13, 0x14, 0x7F, 0, 0, 0x17, 0x16, 12];
+    let stored = "C0 05 B0 01 11 07 12 0A 13 0B 14 40 7F 65 00 64 00 06 0C 00 18 20 19 E0 16 17";
+    let numbers = [
+        5, 0x11, 0x12, 0x13, 0x14, 0x7F, 0, 0, 0x17, 0x16, 12, 0x18, 0x19,
+    ];
     for message in mode_messages() {
         let mut device = behind(stored);
         send(&mut device, 1, message);

@@ -38,9 +38,10 @@ fn known_by(device: &Device) -> Vec<u8> {
             .flat_map(|entry| [entry.channel, entry.value]),
     );
     key.push(0xFF);
-    let fresh = start(1, 0).channels()[0];
+    key.push(u8::from(device.second_drums()));
+    let fresh = start(1, 0);
     for (at, channel) in device.channels().iter().enumerate() {
-        if *channel != fresh {
+        if *channel != fresh.channels()[at] {
             key.push(at as u8);
             key.extend(channel.numbers());
         }
@@ -158,6 +159,16 @@ fn all_lists_of_notes() {
 fn all_lists_of_pedals_and_channel_mode_messages() {
     let alphabet = words("90, B0, 00, 01, 40, 78, 79, 7B, 7E");
     for (polyphony, most_bytes) in [(1, 13), (2, 11), (3, 9), (4, 11)] {
+        search(polyphony, &alphabet, most_bytes);
+    }
+}
+
+/// Notes of channel 11 as melody and as drums, of a group too, beside drums of channel 10, with whole messages that
+/// change the kind, let go of what it holds or take the pedal down.
+#[test]
+fn all_lists_of_kinds_of_channel_11() {
+    let alphabet = words("9A, 99, 8A, CA, 00, 01, 2A, 2C, BA 00 78, BA 00 79, BA 40 7F, BA 7B 00");
+    for (polyphony, most_bytes) in [(1, 14), (2, 11), (3, 10)] {
         search(polyphony, &alphabet, most_bytes);
     }
 }

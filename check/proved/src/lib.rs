@@ -1,4 +1,4 @@
-//! The proved library through its C header, `include/muntinorris.h`: the same structures, the same fifteen calls.
+//! The proved library through its C header, `include/muntinorris.h`: the same structures, the same sixteen calls.
 //!
 //! The only unsafe code is here. The header wants a record that a start made; on any other bytes a call "still returns,
 //! and writes no memory but what it is lent to write", so that nothing here can go wrong for Rust.
@@ -110,8 +110,8 @@ pub struct Table {
     pub entries: [Entry; 16],
 }
 
-/// `struct muntinorris_channel`: eleven bytes in the header's order.
-pub type Channel = [u8; 11];
+/// `struct muntinorris_channel`: thirteen bytes in the header's order.
+pub type Channel = [u8; 13];
 
 /// `struct muntinorris_ages`.
 #[repr(C)]
@@ -139,11 +139,13 @@ pub struct Instrument {
     pub id: u8,
     pub table: Table,
     pub channels: [Channel; 16],
+    /// Of channel 11: 1 for rhythm, 0 for melody.
+    pub kind: u8,
     pub generators: Generators,
 }
 
-/// "The device record, 507 bytes without padding."
-pub const RECORD_BYTES: usize = 507;
+/// "The device record, 540 bytes without padding."
+pub const RECORD_BYTES: usize = 540;
 
 /// `struct muntinorris_device`.
 #[repr(C)]
@@ -181,7 +183,7 @@ pub struct Log {
 }
 
 /// The record of a log, its padding included.
-pub const LOG_BYTES: usize = 568;
+pub const LOG_BYTES: usize = 600;
 
 /// The memory of a log: all its bytes, so that padding can be looked at too.
 #[repr(C, align(8))]
@@ -196,8 +198,13 @@ const _: () = assert!(
     std::mem::size_of::<SongAnswer>() == 8 && std::mem::offset_of!(SongAnswer, number) == 4
 );
 
-const _: () =
-    assert!(std::mem::size_of::<Device>() == RECORD_BYTES && std::mem::align_of::<Device>() == 1);
+const _: () = assert!(
+    std::mem::size_of::<Device>() == RECORD_BYTES
+        && std::mem::align_of::<Device>() == 1
+        && std::mem::offset_of!(Device, instrument) == 39
+        && std::mem::offset_of!(Instrument, channels) == 35
+        && std::mem::offset_of!(Instrument, kind) == 243
+);
 
 const _: () = assert!(
     std::mem::size_of::<MipAnswer>() == 48
@@ -208,11 +215,11 @@ const _: () = assert!(
 const _: () = assert!(
     std::mem::size_of::<Log>() == LOG_BYTES
         && std::mem::align_of::<Log>() == std::mem::align_of::<LogMemory>()
-        && std::mem::offset_of!(Logged, order) == 507
-        && std::mem::offset_of!(Logged, most) == 523
-        && std::mem::offset_of!(Logged, lines) == 544
-        && std::mem::offset_of!(Logged, number) == 552
-        && std::mem::offset_of!(Log, line) == 560
+        && std::mem::offset_of!(Logged, order) == RECORD_BYTES
+        && std::mem::offset_of!(Logged, most) == 556
+        && std::mem::offset_of!(Logged, lines) == 576
+        && std::mem::offset_of!(Logged, number) == 584
+        && std::mem::offset_of!(Log, line) == 592
 );
 
 extern "C" {
@@ -222,6 +229,7 @@ extern "C" {
     fn muntinorris_generator(device: *const Device, generator: u8) -> GeneratorAnswer;
     fn muntinorris_mask(device: *const Device, channel: u8) -> MaskAnswer;
     fn muntinorris_share(device: *const Device, channel: u8) -> ShareAnswer;
+    fn muntinorris_rhythm(device: *const Device, channel: u8) -> u8;
     fn muntinorris_page(device: *const Device, page: *mut u8, length: usize) -> u8;
     fn muntinorris_pitch(key: u8, sensitivity: u8, bend: u16) -> PitchAnswer;
     fn muntinorris_gains(expression: u8, volume: u8, pan: u8) -> GainsAnswer;
@@ -367,6 +375,12 @@ impl Device {
     pub fn share(&self, channel: u8) -> ShareAnswer {
         // SAFETY: as for `generator`.
         unsafe { muntinorris_share(self, channel) }
+    }
+
+    /// 1 for a rhythm channel, 0 for any other.
+    pub fn rhythm(&self, channel: u8) -> u8 {
+        // SAFETY: as for `generator`.
+        unsafe { muntinorris_rhythm(self, channel) }
     }
 
     /// The service page, written to the front of the buffer; its number. The record is lent for writing, which the call

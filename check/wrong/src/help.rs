@@ -45,6 +45,11 @@ pub fn oldest_sustained(generators: &Generators, counts: impl Fn(u8) -> bool) ->
     })
 }
 
+/// Are these drum keys of one exclusive group?
+pub fn same_group(key: u8, other: u8) -> bool {
+    crate::drums::group(key).is_some() && crate::drums::group(key) == crate::drums::group(other)
+}
+
 /// A weight before it is rounded (R12.4), at any place.
 pub fn sine(place: f64) -> f64 {
     32768.0 * (std::f64::consts::PI * place / 252.0).sin()

@@ -62,7 +62,8 @@ pub struct Record {
     pub polyphony: u8,
     pub id: u8,
     pub entries: Vec<Entry>,
-    pub channels: Vec<[u8; 11]>,
+    pub channels: Vec<[u8; 13]>,
+    pub second_drums: bool,
     pub generators: Vec<GeneratorView>,
     pub oldest_first: Vec<u8>,
     pub progress: Progress,
@@ -74,6 +75,7 @@ pub fn record(device: &Device) -> Record {
         id: device.id(),
         entries: device.table().entries().to_vec(),
         channels: device.channels().iter().map(|c| c.numbers()).collect(),
+        second_drums: device.second_drums(),
         generators: (0..device.polyphony())
             .map(|g| device.generator(g).expect("a generator"))
             .collect(),
@@ -88,11 +90,18 @@ pub fn some_device(random: &mut Random, messages: usize) -> Device {
     let mut device = start(polyphony, 0);
     for _ in 0..messages {
         let channel = random.below(16) as u8;
-        let message = match random.below(12) {
+        let message = match random.below(14) {
             0 => some_table(random, polyphony),
             1 => vec![0xB0 | channel, 64, random.data()],
             2 => some_channel_mode(random, channel),
             3 | 4 => vec![0x80 | channel, random.below(12) as u8, 0],
+            // Mostly of channel 11, whose kind they change.
+            5 => vec![
+                0xB0 | random.pick(&[10, channel]),
+                0,
+                random.pick(&[120, 121, 0]),
+            ],
+            6 => vec![0xC0 | random.pick(&[10, channel]), random.data()],
             _ => vec![0x90 | channel, random.below(12) as u8, 64],
         };
         message.into_iter().for_each(|byte| {
