@@ -1,4 +1,4 @@
-//! Ticket 8: the bank of a channel, and channel 11 as a rhythm channel (R1.8, R1.9, R1.14, R5.3, R5.12, R6.4, R6.11,
+//! The bank of a channel, and channel 11 as a rhythm channel (R1.8, R1.9, R1.14, R5.3, R5.12, R6.4, R6.11,
 //! R6.12, R6.15, R6.16, R7.7).
 
 mod common;
