@@ -87,7 +87,7 @@ fn controllers_0_and_32_are_stored_as_they_come() {
     }
 }
 
-/// The words of document 01 that 0 and 32 change nothing give way, those of 38 do not.
+/// Controllers 0 and 32 are stored (R6.6), 38 changes nothing still (R6.13).
 #[test]
 fn neither_0_nor_32_nor_38_is_a_sensitivity() {
     let device = behind("B0 65 00 64 00 00 05 20 06 26 07");
@@ -342,7 +342,7 @@ fn what_a_change_released_is_taken_by_age() {
     );
 }
 
-/// As P8 of document 01, on channel 11.
+/// As P8, on channel 11.
 #[test]
 fn groups_hold_on_a_rhythm_channel_11() {
     let groups: [&[u8]; 5] = [&[42, 44, 46], &[71, 72], &[73, 74], &[78, 79], &[80, 81]];
