@@ -59,9 +59,9 @@
  * sustains. Ask muntinorris_rhythm, or look at instrument.kind, behind the MUNTINORRIS_DONE of a program change. The
  * banks of all other channels are stored for you, and mean nothing here. Rules R5.12, R6.15, R6.16.
  *
- * The machine. libmuntinorris.a is for programs on x86-64 Linux, on any such processor. It is some 32 KB of code and
- * constants, has no data, and calls memcpy and memset of the C library and nothing else. A byte takes up to some 3.3 KB
- * of stack, a report 1.5 KB; calls that take more say so below, and docs/PERFORMANCE.md has all figures.
+ * The machine. libmuntinorris.a is for programs on x86-64 Linux, on any such processor. It is some 34 KB of code and
+ * constants, has no data, and calls memcpy and memset of the C library and nothing else. A byte takes up to some 3.2 KB
+ * of stack, a report 1.6 KB; calls that take more say so below, and docs/PERFORMANCE.md has all figures.
  *
  * Channels are 1 to 16, as musicians count them; the wire carries the channel minus 1. What the device does is written
  * as numbered rules in the repository's docs/RULES.md: a rule has a number such as R5.9, and number n below is rule
@@ -398,7 +398,7 @@ struct muntinorris_gains_answer muntinorris_channel_gains(const struct muntinorr
  * with length 0 the pointer is not looked at. Each byte is played as it is written, on a device that the call makes for
  * itself, and thefts counts the note-ons that were answered MUNTINORRIS_WAS_STOLEN. They come to (n - 1) / 2, rounded
  * down, less the polyphony, and to 0 up to n = 2 * polyphony + 2; without reports no n bytes make more, whatever they
- * are. It takes some 6 KB of stack (x86-64). The song is 90H, and then for j = 0, 1, 2, .. key j mod 128 and
+ * are. It takes some 7 KB of stack (x86-64). The song is 90H, and then for j = 0, 1, 2, .. key j mod 128 and
  * velocity 64. Number 1, else 25. Section 13 of the rules.
  */
 struct muntinorris_song_answer muntinorris_write_song(uint8_t polyphony, size_t n, uint8_t *song, size_t length);
@@ -418,7 +418,7 @@ uint8_t muntinorris_log_begin(struct muntinorris_log *log, const uint8_t *order,
 /*
  * One part more of the log, of any length (0 too), cut anywhere, inside a line as well: the log may be longer than
  * memory. Answers the number that has fallen so far, 15, 16 or 17, or 0; behind a number nothing is looked at any more,
- * and no further part is needed. The part is lent for the call. It takes some 11 KB of stack (x86-64).
+ * and no further part is needed. The part is lent for the call. It takes some 12 KB of stack (x86-64).
  */
 uint8_t muntinorris_log_part(struct muntinorris_log *log, const uint8_t *part, size_t n);
 
@@ -431,7 +431,7 @@ struct muntinorris_mip_answer muntinorris_log_end(const struct muntinorris_log *
 
 /*
  * All in one: the order of n channels, and the whole log of length bytes. Number 16 before 15 and 17; of these the
- * earlier line decides. It takes some 11 KB of stack (x86-64).
+ * earlier line decides. It takes some 12 KB of stack (x86-64).
  */
 struct muntinorris_mip_answer muntinorris_mip_from_log(const uint8_t *order, size_t n, const uint8_t *log,
                                                        size_t length);
