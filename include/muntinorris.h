@@ -54,10 +54,11 @@
  * to R6.13.
  *
  * Rhythm channels. Channel 10 is one always, channel 11 where a program change made it one: with bank MSB (controller
- * 0) 120 it becomes a rhythm channel and with 121 one of melody; any other MSB leaves it what it is. It starts, and a GM
- * System On leaves it, as melody. Where it really changes, that program change releases what channel 11 holds and
- * sustains. Ask muntinorris_rhythm, or look at instrument.kind, behind the MUNTINORRIS_DONE of a program change. The
- * banks of all other channels are stored for you, and mean nothing here. Rules R5.12, R6.15, R6.16.
+ * 0) 120 it becomes a rhythm channel and with 121 one of melody; any other MSB leaves it what it is. It starts, and a
+ * GM System On leaves it, as melody. Where it really changes, that program change releases what channel 11 holds and
+ * sustains. Ask muntinorris_rhythm, or look at instrument.kind, when a note begins, and keep that with the note: it may
+ * ring on behind a change. The banks of all other channels are stored for you, and mean nothing here. Rules R5.12,
+ * R6.15, R6.16.
  *
  * The machine. libmuntinorris.a is for programs on x86-64 Linux, on any such processor. It is some 34 KB of code and
  * constants, has no data, and calls memcpy and memset of the C library and nothing else. A byte takes up to some 3.2 KB
@@ -205,7 +206,7 @@ struct muntinorris_mip_answer {
 
 /* The state of a generator. HELD and SUSTAINED are busy, IDLE alone makes no sound. */
 #define MUNTINORRIS_STATE_IDLE 0
-#define MUNTINORRIS_STATE_HELD 1      /* its key is down */
+#define MUNTINORRIS_STATE_HELD 1      /* its note is on: its key is down, or it is a drum */
 #define MUNTINORRIS_STATE_SUSTAINED 2 /* its key is up and the pedal down */
 #define MUNTINORRIS_STATE_RELEASING 3
 

@@ -88,7 +88,7 @@ pub enum Answer {
 #[derive(Clone, Copy, Debug, PartialEq, Eq)]
 pub enum State {
     Idle,
-    /// Its key is down.
+    /// Its note is on: its key is down, or it is a drum.
     Held,
     /// Its key is up and the pedal down.
     Sustained,

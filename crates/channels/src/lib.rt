@@ -1,5 +1,5 @@
-// What a channel remembers: its thirteen numbers (R1.8, R1.9), program change and pitch bend (R6.5), and which bank makes
-// a rhythm channel (R6.15); controllers are in crate controllers. By value, for every value. Assumes nothing.
+// What a channel remembers: its thirteen numbers (R1.8, R1.9), program change and pitch bend (R6.5), and which bank
+// makes a rhythm channel (R6.15); controllers are in crate controllers. By value, for every value. Assumes nothing.
 ghost use mathlib.Core.Path.{_≡_};
 ghost use Rattle.channels.specs.Channel.{fresh, freshRhythm, withProgram, withBend, rhythmBy};
 

@@ -48,7 +48,8 @@ use Rattle.exclusive.specs.Exclusive.{newTable}
 use Rattle.note_book.specs.Book.{Slot, empty, note, Book, withHolds, withTable, withBank, withRhythm, freshBook}
 use Rattle.note_book.specs.Book.{shareOf, isRhythm, pedalDown, isDown, isOnPedal, isOf, isOfKey}
 use Rattle.note_book.specs.Book.{freed, allFreed, put, keepNoteOff, holdAfter, notesAfter, bankAfter}
-use Rattle.note_book.specs.Book.{keepControl, kindKept, keepProgram, keepMessage, isOfMasked, keepTable, keepReport}
+use Rattle.note_book.specs.Book.{keepControl, kindKept, keepProgram, keepMessage}
+use Rattle.note_book.specs.Book.{isOfMasked, keepTable, keepReport}
 use Rattle.note_book.specs.Claim.{slotOf}
 use Rattle.note_book.proofs.Playable.{playable-changed, playable-silenced, playable-restated, playable-silent}
 use Rattle.note_book.proofs.Sees.{slot-freed, means, pedals, sees-restated}
@@ -274,7 +275,8 @@ step-program i b m c n lo hi = go (eqb c 11) refl
     stored-program : Matches j b
     stored-program = matches-others i b m c lo hi (withProgram (channelOf i c) n) refl refl
 
-    same-kind : c ≡ 11 → rhythmBy (channelOf i c .«bank_msb») (of-instrument.isRhythm i 11) ≡ rhythmBy (b .bank) (b .rhythm)
+    same-kind : c ≡ 11
+        → rhythmBy (channelOf i c .«bank_msb») (of-instrument.isRhythm i 11) ≡ rhythmBy (b .bank) (b .rhythm)
     same-kind k = ap₂ rhythmBy (ap (λ (d : ℕ). channelOf i d .«bank_msb») k ∙ m .bank) (same-rhythm i b m 11)
 
     go : (x : Bool) → eqb c 11 ≡ x

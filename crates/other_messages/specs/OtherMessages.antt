@@ -43,5 +43,7 @@ kindSet i rhythm =
 unfoldable pub playProgram : Instrument → ℕ → ℕ → Instrument
 playProgram i c n =
     if eqb c 11
-    then kindSet (withChannel i c (withProgram (channelOf i c) n)) (rhythmBy (channelOf i c .«bank_msb») (isRhythm i 11))
+    then
+    kindSet (withChannel i c (withProgram (channelOf i c) n))
+    (rhythmBy (channelOf i c .«bank_msb») (isRhythm i 11))
     else withChannel i c (withProgram (channelOf i c) n)

@@ -46,8 +46,7 @@ pub fn note_off(i: Instrument, channel: u8, key: u8) -> Instrument
     i.with_generators(after)
 }
 
-// Channel 11 becomes a rhythm channel or one of melody. Where that is another kind its notes end: a drum would not by its
-// note-off, nor a note of melody by the next drum of its group.
+// Channel 11 becomes a rhythm channel or one of melody. Where it is of another kind then, what it plays is released.
 fn set_kind(i: Instrument, rhythm: bool) -> Instrument
     ensures { λ r. ⌜ r ≡ kindSet i rhythm ⌝ }
 {

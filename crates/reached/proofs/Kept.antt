@@ -1,6 +1,6 @@
 -- The claim, by what every event keeps: each channel in range, the kind 0 or 1, and the first data byte that the parser
--- holds at most 127. A data byte is below 128, so that what a channel message carries is at most 127; it is the last byte, or the
--- first one kept. Nothing else touches the channels but a reset, which makes them fresh.
+-- holds at most 127. A data byte is below 128, so that what a channel message carries is at most 127; it is the last
+-- byte, or the first one kept. Nothing else touches the channels but a reset, which makes them fresh.
 -- Assumes nothing.
 use mathlib.Core.Path.{_≡_, refl, _∙_}
 use mathlib.Core.Bool.{Bool, true, false, _&&_, _||_}
@@ -155,7 +155,8 @@ module _ (i : Instrument) (k : Kept i) where
       one true = omega arith
       one false = omega arith
 
-      go : (x : Bool) → Kept (if x then withGenerators (withKind i r) (changed (ReleaseChannel 11) (i .generators)) else i)
+      go : (x : Bool)
+          → Kept (if x then withGenerators (withKind i r) (changed (ReleaseChannel 11) (i .generators)) else i)
       go true = record { sixteen = k .sixteen; each = k .each; kind = one r }
       go false = k
 

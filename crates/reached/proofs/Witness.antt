@@ -89,7 +89,8 @@ module _ (p id : ℕ) (l : List Event) (c : ℕ) (lo : 1 ≤ c) (hi : c ≤ 16) 
 -- number that is no byte stand between
 abbrev pub loudest : List Event
 loudest =
-    Byte 0xBF ∷ Byte 0 ∷ Byte 127 ∷ Byte 32 ∷ Byte 127 ∷ Byte 1 ∷ Byte 127 ∷ Byte 7 ∷ Byte 127 ∷ Byte 10 ∷ Byte 127 ∷ Byte 11 ∷ Byte 127 ∷ Byte 64 ∷ Byte 127
+    Byte 0xBF ∷ Byte 0 ∷ Byte 127 ∷ Byte 32 ∷ Byte 127
+    ∷ Byte 1 ∷ Byte 127 ∷ Byte 7 ∷ Byte 127 ∷ Byte 10 ∷ Byte 127 ∷ Byte 11 ∷ Byte 127 ∷ Byte 64 ∷ Byte 127
     ∷ Byte 101 ∷ Byte 0 ∷ Byte 100 ∷ Byte 0 ∷ Byte 6 ∷ Byte 127 ∷ Byte 101
     ∷ Byte 127 ∷ Byte 100 ∷ Byte 0xF8 ∷ Report 0 ∷ Byte 300 ∷ Byte 127
     ∷ Byte 0xCF ∷ Byte 127 ∷ Byte 0xEF ∷ Byte 127 ∷ Byte 127 ∷ []
@@ -112,7 +113,8 @@ pub bounds-reached : channelOf (after (started 65 0 .device) loudest .instrument
     }
 unfolding begun stored oneDataByte completed dataByte opened ended statusByte split decode of-channel.fresh
     of-controllers.dataEntry of-controllers.stored of-controllers.controlled silent fresh channelAt replaced
-    channelOf withChannel notesAfter playControl playProgram played reported started heard byteTaken reportTaken taken after
+    channelOf withChannel notesAfter playControl playProgram played reported started heard byteTaken reportTaken taken
+    after
 bounds-reached = refl
 
 -- and the kind of rhythm, by bank MSB 120 and a program change on channel 11

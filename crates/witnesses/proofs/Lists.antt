@@ -1,7 +1,7 @@
 -- The claims bite, in short lists: a drum is served, an idle generator is given, and so is one whose note a mode
 -- message, a drum of its group on channel 11 or a change of that channel's kind has ended; a theft that is allowed; a
--- note on the pedal that goes before an older key; and runs that bring a drum along. What stood there before is computed
--- from the definitions; what becomes of the last note `demand-3` alone says, `who-loses` who pays for it, and
+-- note on the pedal that goes before an older key; and runs that bring a drum along. What stood there before is
+-- computed from the definitions; what becomes of the last note `demand-3` alone says, `who-loses` who pays for it, and
 -- `rhythm-is-by-book` which channels are rhythm channels.
 -- Assumes nothing.
 use mathlib.Core.Path.{_≡_, refl, sym, ap, _∙_, subst}
@@ -140,9 +140,8 @@ pub hi-hat-given : IsGiven (Live .answer hi-hat (Byte 64))
 unfolding upTo total filterBy firstOf padded begun stored oneDataByte completed dataByte opened ended statusByte
     split decode tableOf startTable sharesFrom lookup shareOf groupOf excludes agesOf newest assigned silent
     changes stateAfter changed isAmong leaves silenced lowestIdle cleared choice noteOn fresh isRhythm playNoteOn
-    played playControl notesAfter controlled of-controllers.stored of-channel.fresh rhythmBy channelAt replaced channelOf
-    withChannel kindSet playProgram
-    started heard byteTaken taken keepMessage keep after
+    played playControl notesAfter controlled of-controllers.stored of-channel.fresh rhythmBy channelAt replaced
+    channelOf withChannel kindSet playProgram started heard byteTaken taken keepMessage keep after
 hi-hat-given = go (isLoss (hi-hat .book) 11 42 (Live .answer hi-hat (Byte 64))) refl
   where
     go : (l : Bool) → isLoss (hi-hat .book) 11 42 (Live .answer hi-hat (Byte 64)) ≡ l
@@ -163,9 +162,8 @@ pub given-behind-a-change-of-kind : IsGiven (Live .answer behind-the-change (Byt
 unfolding upTo total filterBy firstOf padded begun stored oneDataByte completed dataByte opened ended statusByte
     split decode tableOf startTable sharesFrom lookup shareOf groupOf excludes agesOf newest assigned silent
     changes stateAfter changed isAmong leaves silenced lowestIdle cleared choice noteOn fresh isRhythm playNoteOn
-    played playControl notesAfter controlled of-controllers.stored of-channel.fresh rhythmBy channelAt replaced channelOf
-    withChannel kindSet playProgram
-    started heard byteTaken taken keepMessage keep after
+    played playControl notesAfter controlled of-controllers.stored of-channel.fresh rhythmBy channelAt replaced
+    channelOf withChannel kindSet playProgram started heard byteTaken taken keepMessage keep after
 given-behind-a-change-of-kind =
     go (isLoss (behind-the-change .book) 1 64 (Live .answer behind-the-change (Byte 64))) refl
   where

@@ -1,5 +1,5 @@
--- `muntinorris::muntinorris_rhythm` meets its contract: `Copied`'s law at `rhythm_number`, whose contract is all that is
--- known of it.
+-- `muntinorris::muntinorris_rhythm` meets its contract: `Copied`'s law at `rhythm_number`, whose contract is all that
+-- is known of it.
 -- Assumes nothing.
 use Rattle.queries.specs.Queries.{rhythmQuery}
 use Rattle.numbers.specs.Numbers.{rhythmNumber}
