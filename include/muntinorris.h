@@ -26,8 +26,9 @@
  *     it was not releasing and is    release it: its key came up, the pedal was lifted, one of the controllers 123 to
  *                                    127, a mask or a change of channel 11's kind ended it, or its key was struck
  *                                    again (step 2 of a note-on)
- *     it was not idle and is         mute it at once: controller 120, a reset, another drum of its group (step 3), or
- *                                    the report that you have just made
+ *     it was not idle and is         mute it at once: controller 120, a reset, another drum of its group on its
+ *                                    channel (step 3; on channel 11 also what still rings of its melody time), or the
+ *                                    report that you have just made
  *     it was held and is sustained   nothing: it sounds on
  *     it has the note of the answer  cut off what it plays and begin the note, whatever it was: the answer says what it
  *                                    was behind steps 2 and 3, so that one that was idle may have sounded until this
@@ -56,12 +57,14 @@
  * Rhythm channels. Channel 10 is one always, channel 11 where a program change made it one: with bank MSB (controller
  * 0) 120 it becomes a rhythm channel and with 121 one of melody; any other MSB leaves it what it is. It starts, and a
  * GM System On leaves it, as melody. Where it really changes, that program change releases what channel 11 holds and
- * sustains. Ask muntinorris_rhythm, or look at instrument.kind, when a note begins, and keep that with the note: it may
- * ring on behind a change. The banks of all other channels are stored for you, and mean nothing here. Rules R5.12,
- * R6.15, R6.16.
+ * sustains. Ask muntinorris_rhythm, or look at instrument.kind, when a note begins, and keep the answer with the note,
+ * which may ring on after a change. Who keeps a copy of the kind compares it after each MUNTINORRIS_DONE and each
+ * start, and copies program and bank of the channel then: a later Bank Select overwrites the bank before its own
+ * program change comes. The banks of all other channels are stored for you, and mean nothing here. Rules R5.12, R6.15,
+ * R6.16.
  *
  * The machine. libmuntinorris.a is for programs on x86-64 Linux, on any such processor. It is some 34 KB of code and
- * constants, has no data, and calls memcpy and memset of the C library and nothing else. A byte takes up to some 3.2 KB
+ * constants, has no data, and calls memcpy and memset of the C library and nothing else. A byte takes up to some 3.4 KB
  * of stack, a report 1.6 KB; calls that take more say so below, and docs/PERFORMANCE.md has all figures.
  *
  * Channels are 1 to 16, as musicians count them; the wire carries the channel minus 1. What the device does is written
@@ -347,8 +350,8 @@ struct muntinorris_mask_answer muntinorris_mask(const struct muntinorris_device 
 struct muntinorris_share_answer muntinorris_share(const struct muntinorris_device *d, uint8_t channel);
 
 /*
- * Whether it is a rhythm channel: 1 for channel 10, for channel 11 its kind, 0 for any other and for what is no
- * channel. It refuses nothing. R7.7.
+ * Whether it is a rhythm channel: 1 for channel 10, and for channel 11 where its kind is MUNTINORRIS_RHYTHM; 0 for any
+ * other and for what is no channel. It refuses nothing. R7.7.
  */
 uint8_t muntinorris_rhythm(const struct muntinorris_device *d, uint8_t channel);
 

@@ -51,7 +51,8 @@
 //! Controllers 124 to 127 end the notes of their channel as 123 does, whatever their value; the device has one mode.
 //!
 //! Channel 10 is a rhythm channel. Channel 11 becomes one by a program change with bank MSB (controller 0) 120, and one
-//! of melody with 121, as which it starts; a change of its kind releases what it plays. [`Device::is_rhythm`] tells.
+//! of melody with 121; any other MSB leaves it what it is, and a start or GM System On makes it melody. A change of its
+//! kind releases what it plays. [`Device::is_rhythm`] tells: ask when a note begins.
 use std::mem::MaybeUninit;
 
 pub mod record;

@@ -96,7 +96,8 @@ unfolding upTo total filterBy firstOf padded begun stored oneDataByte completed 
     split decode tableOf startTable listed sharesFrom lookup shareOf shareQuery isMip isSystemOn kindOf pairs faulty
     judged groupOf excludes agesOf newest assigned silent changes stateAfter changed isAmong leaves silenced lowestIdle
     wanted oldest stolenFirst busyCount overShare stealFrom victim cleared choice noteOn fresh isRhythm masked
-    playNoteOn played started newTable mipTaken exclusive heard byteTaken afterBytes generatorQuery P1 P2 P5 P6 P7 P8 P9 printed
+    playNoteOn played started newTable mipTaken exclusive heard byteTaken afterBytes generatorQuery P1 P2 P5 P6 P7 P8
+    P9 printed
 fixed = refl
 
 pub paper-examples : (p : ℕ) → 1 ≤ p → p ≤ 64 → computed p ≡ printed

@@ -33,7 +33,8 @@ use Rattle.exclusive.specs.Exclusive as of-exclusive
 use Rattle.note_book.specs.Book.{Slot, empty, note, Book, isDone, shareOf, isRhythm, isOf}
 use Rattle.note_book.specs.Book.{withHolds, withBank, withRhythm, isEnded, freed, allFreed, put}
 use Rattle.note_book.specs.Book.{remaining, keepNoteOn, notesAfter, keepControl, kindKept, keepProgram}
-use Rattle.note_book.specs.Book.{keepMessage, keepReport, Heard, nothing, message, newTable, reset, report, keep, notesOn, countAt}
+use Rattle.note_book.specs.Book.{keepMessage, keepReport, Heard, nothing, message, newTable, reset, report}
+use Rattle.note_book.specs.Book.{keep, notesOn, countAt}
 use Rattle.note_book.specs.Claim.{IsWithin, isLoss, IsFull, Fair, Keeps, Safe, AtNoteOn}
 use Rattle.note_book.specs.Claim.{IsInRun, System, after, IsExact, Always, Each, IsRun, Demand3}
 use Rattle.note_book.specs.Age.{named}

@@ -11,7 +11,8 @@ use mathlib.Core.Option.{some, none}
 use Prim.Native.Nat.{ℕ, _≤_, _<_}
 use borrow.Author.Tests.{eqb-true}
 use lib.Dec.{eqb}
-use Rattle.loops.specs.Passes.{firstOf}
+use Rattle.loops.specs.Passes.{total, firstOf}
+use Rattle.drums.specs.Drums.{groupOf, excludes}
 use Rattle.table.specs.declared.Entry.{Entry}
 use Rattle.shares.specs.declared.Share.the-variants.{Units}
 use Rattle.shares.specs.Shares.{isMasked}
@@ -23,8 +24,8 @@ use Rattle.instrument.specs.Instrument as of-instrument
 use Rattle.playing.specs.declared.Answer.{Answer}
 use Rattle.playing.specs.declared.Answer.the-variants.{Nothing, Done, Note, NoNote, Number}
 use Rattle.events.specs.declared.Event.{Event}
-use Rattle.note_book.specs.Book.{Slot, Book, isNote, isDown, isOnPedal, isOf, isEnded, remaining, Heard}
-use Rattle.note_book.specs.Book.{nothing, message, newTable, reset, report}
+use Rattle.note_book.specs.Book.{Slot, note, Book, isNote, isDown, isOnPedal, isOf, isEnded, remaining}
+use Rattle.note_book.specs.Book.{countAt, Heard, nothing, message, newTable, reset, report}
 use Rattle.note_book.specs.Book as of-book
 use Rattle.note_book.specs.Claim.{IsWithin, isLoss, isServed, Fair, Safe, IsInRun, System, after}
 use Rattle.note_book.specs.Claim.{AtNoteOn, IsExact, Always, Each, IsRun, StaysWithin, Demand3, Live, begin}
@@ -46,6 +47,12 @@ in-run (message m) t r = tt
 in-run (newTable x) t r = absurd (t x refl)
 in-run reset t r = absurd (r refl)
 in-run (report g) t r = tt
+
+-- the count at a note-on leaves out what the new note ends: of a rhythm channel 11 its open hi-hat, at the closed one
+pub hi-hat-counted-once : (b : Book) → b .polyphony ≡ 1 → b .rhythm ≡ true → b .notes 0 ≡ note false 11 46
+    → countAt b 11 42 ≡ 1
+unfolding total groupOf excludes
+hi-hat-counted-once b p r n = rw (p, n, r)
 
 -- a run is any part of the list, with what came before it
 pub run-anywhere : (S : System) (s : S .State) (l : List (S .Event)) → Demand3 S s l

@@ -4,7 +4,7 @@
 -- rhythm.
 -- Assumes nothing.
 use mathlib.Core.Path.{_≡_, refl}
-use mathlib.Core.Bool.{Bool, true, false}
+use mathlib.Core.Bool.{Bool, true, false, _||_}
 use mathlib.Core.Logic.{_⊎_, inl, inr}
 use mathlib.Core.List.{List, [], _∷_}
 use mathlib.Core.Option.{none}
@@ -12,7 +12,8 @@ use Prim.Native.Nat.{ℕ, _+_, _*_, _≤_, _<_}
 use native.Mathlib.Omega.{arith}
 use lib.ListN.{getD}
 use borrow.Author.Tests.{eqb-true, eqb-false, le-ltb}
-use lib.Dec.{eqb}
+use lib.Dec.{eqb, ltb}
+use Rattle.loops.proofs.Cases.{by-both}
 use Rattle.splitter.specs.Split.{begun, stored, oneDataByte, completed, dataByte, opened, ended, statusByte, split}
 use Rattle.message.specs.Message.{decode}
 use Rattle.channels.specs.declared.Channel.{Channel}
@@ -25,6 +26,7 @@ use Rattle.other_messages.specs.OtherMessages.{notesAfter, playControl, kindSet
 use Rattle.playing.specs.Playing.{played}
 use Rattle.reports.specs.Reports.{reported}
 use Rattle.device.specs.declared.Device.{Device}
+use Rattle.device.specs.declared.Output.{Output}
 use Rattle.device.specs.Device.{started, heard, byteTaken}
 use Rattle.events.specs.declared.Event.{Event}
 use Rattle.events.specs.declared.Event.the-variants.{Byte, Report}
@@ -117,7 +119,12 @@ unfolding begun stored oneDataByte completed dataByte opened ended statusByte sp
     after
 bounds-reached = refl
 
--- and the kind of rhythm, by bank MSB 120 and a program change on channel 11
+-- the kind is melody at every start, refused or not, and rhythm by bank MSB 120 and a program change on channel 11
+pub melody-reached : (p id : ℕ) → after (started p id .device) [] .instrument .kind ≡ 0
+unfolding fresh started after
+melody-reached p id = by-both (λ (o : Output). o .device .instrument .kind ≡ 0) (ltb p 1 || ltb 64 p) _ _ refl
+    (by-both (λ (o : Output). o .device .instrument .kind ≡ 0) (ltb 126 id) _ _ refl refl)
+
 pub rhythm-reached : after (started 1 0 .device) (Byte 0xBA ∷ Byte 0 ∷ Byte 120 ∷ Byte 0xCA ∷ Byte 0 ∷ []) .instrument
     .kind ≡ 1
 unfolding begun stored oneDataByte completed dataByte opened ended statusByte split decode of-channel.fresh

@@ -13,7 +13,9 @@ use native.Mathlib.Omega.{arith}
 use Rattle.loops.specs.Passes.{upTo, total, filterBy, firstOf, padded}
 use Rattle.splitter.specs.Split.{begun, stored, oneDataByte, completed, dataByte, opened, ended, statusByte, split}
 use Rattle.message.specs.Message.{decode}
-use Rattle.table.specs.Table.{tableOf, startTable}
+use Rattle.table.specs.Table.{tableOf, startTable, listed}
+use Rattle.sysex.specs.SysEx.{isMip, isSystemOn, kindOf}
+use Rattle.mip.specs.Mip.{pairs, faulty, judged}
 use Rattle.shares.specs.Shares.{sharesFrom, lookup, isMasked, shareOf}
 use Rattle.drums.specs.Drums.{groupOf, excludes}
 use Rattle.ages.specs.Ages.{agesOf, newest}
@@ -31,6 +33,8 @@ use Rattle.channels.specs.Channel as of-channel
 use Rattle.controllers.specs.Controllers.{controlled}
 use Rattle.controllers.specs.Controllers as of-controllers
 use Rattle.other_messages.specs.OtherMessages.{notesAfter, playNoteOff, playControl, kindSet, playProgram}
+use Rattle.masking.specs.Masking.{masked}
+use Rattle.exclusive.specs.Exclusive.{newTable, mipTaken, exclusive}
 use Rattle.playing.specs.declared.Answer.{Answer}
 use Rattle.playing.specs.declared.Answer.the-variants.{Note}
 use Rattle.playing.specs.Playing.{playNoteOn, played}
@@ -151,6 +155,29 @@ hi-hat-given = go (isLoss (hi-hat .book) 11 42 (Live .answer hi-hat (Byte 64))) 
         (drum-kit ++ (Byte 0x9A ∷ Byte 46 ∷ Byte 64 ∷ Byte 42 ∷ Byte 64 ∷ []))
         .fair .1 .1 .1 .1 .1 .1 .1 .1 .1 .0 e 0 1-of-1 .1)))
     go false e = not-lost (hi-hat .book) 11 42 (Live .answer hi-hat (Byte 64)) refl e
+
+-- with a share of 1, the generator's whole, it has a claim to that: the count leaves the open one out, which the closed
+-- one ends, and the change of kind stands within the run
+abbrev pub kit-alone : List Event
+kit-alone = Byte 0xF0 ∷ Byte 0x7F ∷ Byte 0x7F ∷ Byte 0x0B ∷ Byte 0x01 ∷ Byte 10 ∷ Byte 1 ∷ Byte 0xF7 ∷ []
+
+abbrev pub hats : List Event
+hats = drum-kit ++ (Byte 0x9A ∷ Byte 46 ∷ Byte 64 ∷ Byte 42 ∷ Byte 64 ∷ [])
+
+pub closed-hat-served : isServed 11 42
+    (Live .answer (after Live (begin 1 0) (kit-alone ++ (drum-kit ++ (Byte 0x9A ∷ Byte 46 ∷ Byte 64 ∷ Byte 42 ∷ []))))
+    (Byte 64)) ≡ true
+unfolding upTo total filterBy firstOf padded begun stored oneDataByte completed dataByte opened ended statusByte
+    split decode tableOf startTable sharesFrom lookup shareOf groupOf excludes agesOf newest assigned silent
+    changes stateAfter changed isAmong leaves silenced lowestIdle cleared choice noteOn fresh isRhythm playNoteOn
+    played playControl notesAfter controlled of-controllers.stored of-channel.fresh rhythmBy channelAt replaced
+    channelOf withChannel kindSet playProgram started heard byteTaken taken keepMessage keep after
+    listed isMip isSystemOn kindOf pairs faulty judged masked newTable mipTaken exclusive
+closed-hat-served =
+    demand-3 1 0 (kit-alone ++ (hats ++ [])) .shared kit-alone hats [] refl
+    (tt, (tt, (tt, (tt, (tt, (tt, (tt, (tt, (tt, (tt, tt)))))))))) 11
+    (0-of-1, (tt, (tt, (tt, (tt, (tt, (tt, (tt, ((λ e. 1-of-1), (tt, ((λ e. 1-of-1), tt)))))))))))
+    .1 .1 .1 .1 .1 .1 .1 .1 .1 .0 .0 refl
 
 -- a note of its melody time leaves the book with the change of kind, so that the next note, of channel 1, is given the
 -- generator

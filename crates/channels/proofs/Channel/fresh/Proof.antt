@@ -1,4 +1,4 @@
--- `channels::Channel::fresh` meets its contract: its eleven numbers are the definition's.
+-- `channels::Channel::fresh` meets its contract: its thirteen numbers are the definition's.
 -- Assumes nothing.
 use mathlib.Core.Path.{refl}
 use Rattle.channels.specs.Channel.{fresh}
