@@ -45,8 +45,8 @@ const SHARED: [(&str, &str); 23] = [
 
 /// Such mistakes about what a theft takes, each with the claim that finds it.
 const SHARED_THEFTS: [(&str, &str); 24] = [
-    ("NewNoteNotCounted", OTHER_CHANNEL_OR_NONE),
-    ("HighestPriorityLoses", OTHER_CHANNEL_OR_NONE),
+    ("NewNoteNotCounted", NOTE_TO_STEAL),
+    ("HighestPriorityLoses", OTHER_CHANNEL),
     ("AnotherLoserSought", OTHER_CHANNEL),
     ("ChannelWithPedalNoteLoses", OTHER_CHANNEL),
     ("OldestSustainedOverShareStolen", OTHER_CHANNEL),
@@ -67,12 +67,10 @@ const SHARED_THEFTS: [(&str, &str); 24] = [
     ("LastKeyUpStolen", OLDER_SPARED),
     ("OnlyHeldStolen", PEDAL_NOTE_SPARED),
     ("OnlySustainedStolen", NOTE_TO_STEAL),
-    ("DrumsOfElevenNotCounted", OTHER_CHANNEL_OR_NONE),
+    ("DrumsOfElevenNotCounted", OTHER_CHANNEL),
     ("DrumsOfElevenNeverStolen", NOTE_TO_STEAL),
 ];
 const OTHER_CHANNEL: &str = "R5.8: ";
-/// By one of the two, whichever the lists come to first.
-const OTHER_CHANNEL_OR_NONE: &str = "R5.";
 const PEDAL_NOTE_SPARED: &str = "down, is stolen although its channel had a note on the pedal";
 const OLDER_SPARED: &str = "is stolen, and the oldest one is on generator";
 const NOTE_TO_STEAL: &str = "R5.10: number 11 although channel";
