@@ -63,7 +63,7 @@
  * program change comes. The banks of all other channels are stored for you, and mean nothing here. Rules R5.12, R6.15,
  * R6.16.
  *
- * The machine. libmuntinorris.a is for programs on x86-64 Linux, on any such processor. It is some 29 KB of code and
+ * The machine. libmuntinorris.a is for programs on x86-64 Linux, on any such processor. It is some 34 KB of code and
  * constants, has no data, and calls memcpy and memset of the C library and nothing else. A byte takes up to some 3.4 KB
  * of stack, a report 1.6 KB; calls that take more say so below, and docs/PERFORMANCE.md has all figures.
  *
@@ -213,9 +213,6 @@ struct muntinorris_mip_answer {
 #define MUNTINORRIS_STATE_SUSTAINED 2 /* its key is up and the pedal down */
 #define MUNTINORRIS_STATE_RELEASING 3
 
-/* In the row of shares: the channel is masked, listed in the table or not, and has no share. */
-#define MUNTINORRIS_NO_SHARE 255
-
 /* The kind of channel 11. */
 #define MUNTINORRIS_MELODY 0
 #define MUNTINORRIS_RHYTHM 1 /* a rhythm channel, as channel 10 is always */
@@ -275,28 +272,17 @@ struct muntinorris_generators {
     struct muntinorris_ages ages;
 };
 
-/*
- * All but the parser. shares and channels are indexed by the channel minus 1.
- *
- * shares has the share of each channel by the table and the polyphony, 0 to 64, so that nobody who reads the record
- * need subtract; MUNTINORRIS_NO_SHARE, 255, stands for a masked channel. Over a debug link: bytes 74 to 89 of the
- * device record, from 0, channel 1 first. It is set with the table, by a start (a refused one too), a GM System On and
- * an accepted MIP message, each answered MUNTINORRIS_DONE but for the refused start, and by nothing else. After every
- * call it is right, a theorem (R10.14); while a call runs table and row may be of two tables, so read it between two.
- * Steps 1 and 5 of a note-on go by it, and so does what a new table masks. muntinorris_share gives the same, but 0 for
- * a masked channel. Rules R2.10 to R2.14.
- */
+/* All but the parser. channels is indexed by the channel minus 1. */
 struct muntinorris_instrument {
     uint8_t polyphony; /* 1 to 64 */
     uint8_t id;        /* own device ID, 0 to 126 */
     struct muntinorris_table table;
-    uint8_t shares[16]; /* 0 to 64, or MUNTINORRIS_NO_SHARE */
     struct muntinorris_channel channels[16];
     uint8_t kind; /* of channel 11: MUNTINORRIS_MELODY or _RHYTHM */
     struct muntinorris_generators generators;
 };
 
-/* The device record, 556 bytes without padding. Anyone may read it; only the calls below write it. */
+/* The device record, 540 bytes without padding. Anyone may read it; only the calls below write it. */
 struct muntinorris_device {
     struct muntinorris_parser parser;
     struct muntinorris_instrument instrument;
@@ -316,7 +302,7 @@ struct muntinorris_log_line {
 /*
  * The log up to its last 0AH. Where a number has fallen, device, order and most are as they were before the line that
  * it fell at, and nothing behind that line is looked at; with 16 the device is fresh and the rest zeros. (Where
- * uint64_t has alignment 8: 4 bytes of padding before lines and 7 behind number, 608 bytes.)
+ * uint64_t has alignment 8: 4 bytes of padding before lines and 7 behind number, 592 bytes.)
  */
 struct muntinorris_logged {
     struct muntinorris_device device; /* polyphony 64, own ID 0, after the lines so far */
@@ -330,7 +316,7 @@ struct muntinorris_logged {
 };
 
 /*
- * A log as far as it was given, 616 bytes where uint64_t has alignment 8. Anyone may read it; only the calls below
+ * A log as far as it was given, 600 bytes where uint64_t has alignment 8. Anyone may read it; only the calls below
  * write it. What stands in the padding is not said: compare two logs field by field. A byte of the log goes into line,
  * which each 0AH empties; so it does behind a number too, and changes nothing else there.
  */

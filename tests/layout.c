@@ -88,9 +88,8 @@ static void starts(void)
     for (i = 0; i < 16; i++)
         want.instrument.table.entries[i].value = 38;
     want.instrument.polyphony = 38;
-    want.instrument.shares[9] = 38;
     answer = muntinorris_start(device, 38, 102);
-    check(memcmp(&want, device, sizeof want) == 0, "polyphony, the table's values and channel 10's share differ");
+    check(memcmp(&want, device, sizeof want) == 0, "polyphony and the table's values differ");
 }
 
 static void parser(void)
@@ -216,12 +215,7 @@ static void table(void)
     memset(&want.instrument.table, 0, sizeof want.instrument.table);
     want.instrument.table.count = 4;
     memcpy(want.instrument.table.entries, entries, sizeof entries);
-    memset(want.instrument.shares, MUNTINORRIS_NO_SHARE, sizeof want.instrument.shares);
-    want.instrument.shares[3] = 5;
-    want.instrument.shares[1] = 2;
-    want.instrument.shares[8] = 53;
-    want.instrument.shares[15] = 4;
-    byte(0xF7, "table.count, table.entries and shares");
+    byte(0xF7, "table.count and table.entries");
     check(answer.what == MUNTINORRIS_DONE, "an accepted MIP message");
     /* reading */
     check(muntinorris_share(device, 9).share == 53 && muntinorris_mask(device, 9).masked == 0, "the table is read");
@@ -236,38 +230,6 @@ static void table(void)
     check(muntinorris_mask(device, 1).masked == 1, "table.count is read");
     device->instrument.polyphony = 6;
     check(muntinorris_mask(device, 2).masked == 1 && muntinorris_mask(device, 4).masked == 0, "polyphony is read");
-}
-
-/* The row of shares: of a start, and read by a note-on. */
-static void shares(void)
-{
-    static const uint8_t notes[] = {0x90, 60, 64, 0x91, 60, 64};
-    unsigned c;
-
-    check(offsetof(struct muntinorris_device, instrument) + offsetof(struct muntinorris_instrument, shares) == 74 &&
-              sizeof device->instrument.shares == 16,
-          "the shares are bytes 74 to 89");
-    start(0, 5);
-    for (c = 0; c < 16; c++)
-        check(device->instrument.shares[c] == (c == 9 ? 1 : 0), "the shares of a refused start");
-    /* Channels 1 and 2 have the generators, and channel 3 strikes. By the table all three are above their shares of 0,
-     * and 3 would be turned away; by the row channel 1 alone is. */
-    start(2, 5);
-    for (c = 0; c < sizeof notes; c++)
-        feed(notes[c]);
-    device->instrument.shares[2] = 1;
-    device->instrument.shares[1] = 1;
-    feed(0x92);
-    feed(60);
-    feed(64);
-    check(answer.what == MUNTINORRIS_NOTE && answer.generator == 0 && answer.was == MUNTINORRIS_WAS_STOLEN,
-          "shares are read by step 5");
-    device->instrument.shares[2] = MUNTINORRIS_NO_SHARE;
-    feed(61);
-    feed(64);
-    check(answer.what == MUNTINORRIS_NUMBER && answer.number == MUNTINORRIS_MASKED, "shares are read by step 1");
-    check(muntinorris_mask(device, 3).masked == 0 && muntinorris_share(device, 3).share == 0,
-          "queries ask the table");
 }
 
 static void generators(void)
@@ -703,7 +665,7 @@ static void layout(void)
     STRUCT(device), FIELD(device, parser), FIELD(device, instrument);
     STRUCT(parser), FIELD(parser, status), FIELD(parser, count), FIELD(parser, bytes);
     STRUCT(instrument), FIELD(instrument, polyphony), FIELD(instrument, id), FIELD(instrument, table);
-    FIELD(instrument, shares), FIELD(instrument, channels), FIELD(instrument, kind), FIELD(instrument, generators);
+    FIELD(instrument, channels), FIELD(instrument, kind), FIELD(instrument, generators);
     STRUCT(table), FIELD(table, count), FIELD(table, entries);
     STRUCT(entry), FIELD(entry, channel), FIELD(entry, value);
     STRUCT(channel), FIELD(channel, program), FIELD(channel, modulation), FIELD(channel, volume), FIELD(channel, pan);
@@ -745,7 +707,6 @@ int main(int argc, char **argv)
     channels();
     kind();
     table();
-    shares();
     generators();
     ages_and_id();
     numbers();

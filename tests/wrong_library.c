@@ -51,26 +51,6 @@ static void change(void *thing)
     ((unsigned char *)thing)[at ? atoi(at) : 0] += by ? atoi(by) : 1;
 }
 
-/* Has the row of shares other numbers than table and polyphony give? No call leaves it so: a test wrote them. */
-static int stands_otherwise(const struct muntinorris_device *d)
-{
-    int channel;
-
-    for (channel = 1; channel <= 16; channel++) {
-        int share = right_mask(d, channel).masked ? 255 : right_share(d, channel).share;
-
-        if (d->instrument.shares[channel - 1] != share)
-            return 1;
-    }
-    return 0;
-}
-
-/* It waits for no byte. */
-static int is_wrong_on(const struct muntinorris_device *d, const char *word)
-{
-    return is_meant(word) && stands_otherwise(d);
-}
-
 struct muntinorris_answer muntinorris_start(struct muntinorris_device *d, uint8_t polyphony, uint8_t id)
 {
     struct muntinorris_answer a = right_start(d, polyphony, id);
@@ -84,13 +64,12 @@ struct muntinorris_answer muntinorris_start(struct muntinorris_device *d, uint8_
 
 struct muntinorris_answer muntinorris_byte(struct muntinorris_device *d, uint8_t byte)
 {
-    int other_answer = is_wrong_on(d, "byte on a standing row"), other = is_wrong_on(d, "record on a standing row");
     struct muntinorris_answer a = right_byte(d, byte);
 
     calls++;
-    if (is_wrong("byte") || other_answer)
+    if (is_wrong("byte"))
         change(&a);
-    if (is_wrong("record") || other ||
+    if (is_wrong("record") ||
         (is_wrong("swallowing") && d->parser.status >= 0xF1 && d->parser.status <= 0xF3 && d->parser.count == 1) ||
         (is_wrong("rubbish") && d->instrument.polyphony > 64))
         change(d);
@@ -101,10 +80,9 @@ struct muntinorris_answer muntinorris_byte(struct muntinorris_device *d, uint8_t
 
 struct muntinorris_answer muntinorris_report(struct muntinorris_device *d, uint8_t generator)
 {
-    int other_answer = is_wrong_on(d, "report on a standing row");
     struct muntinorris_answer a = right_report(d, generator);
 
-    if (is_wrong("report") || other_answer)
+    if (is_wrong("report"))
         change(&a);
     if (is_wrong("reported"))
         change(d);
@@ -124,7 +102,7 @@ struct muntinorris_mask_answer muntinorris_mask(const struct muntinorris_device 
 {
     struct muntinorris_mask_answer a = right_mask(d, channel);
 
-    if (is_wrong("mask") || is_wrong_on(d, "mask of a standing row"))
+    if (is_wrong("mask"))
         change(&a);
     return a;
 }
@@ -133,7 +111,7 @@ struct muntinorris_share_answer muntinorris_share(const struct muntinorris_devic
 {
     struct muntinorris_share_answer a = right_share(d, channel);
 
-    if (is_wrong("share") || is_wrong_on(d, "share of a standing row"))
+    if (is_wrong("share"))
         change(&a);
     return a;
 }
@@ -160,7 +138,7 @@ uint8_t muntinorris_page(const struct muntinorris_device *d, uint8_t *page, size
 
     if (length > 0 && is_meant(number == 0 ? "memory by a page" : "memory by a refused page"))
         change(at < 0 ? page : page + length);
-    if (number == 0 && (is_meant("written page") || is_wrong_on(d, "page of a standing row")))
+    if (number == 0 && is_meant("written page"))
         change(page);
     if (number == 0 && at >= 0 && (size_t)at < length - MUNTINORRIS_PAGE_BYTES && is_meant("buffer behind a page"))
         change(page + MUNTINORRIS_PAGE_BYTES);

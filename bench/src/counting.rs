@@ -196,7 +196,6 @@ fn messages() -> Vec<Case> {
     ];
     cases.extend(pedal_thefts(&full));
     cases.extend(notes(&full, &drums));
-    cases.extend(rows_of_shares());
     cases.extend(pedals(&full));
     cases.extend(kinds());
     cases.extend(exclusive(&full));
@@ -256,39 +255,6 @@ fn notes(full: &[u8], drums: &[u8]) -> Vec<Case> {
         ),
         last("123 with 64 held", followed(full.to_vec(), &[0xB0, 123]), 0),
         last("126 with 64 held", followed(full.to_vec(), &[0xB0, 126]), 1),
-    ]
-}
-
-/// What reads the row of shares: a note-on of the channel that is listed last of sixteen, of one that is listed there
-/// and masked and of one that is not listed; and a theft past eight masked channels and seven at their share.
-fn rows_of_shares() -> Vec<Case> {
-    let last = |name, setup: Vec<u8>| {
-        case(
-            name,
-            &followed(setup, &[0x9F, 60]),
-            &[64],
-            Target::SingleByte,
-        )
-    };
-    let four_each = |channel: u8| (channel, 4 * channel + 4);
-    let masked = (0..16).map(|channel| (channel, 4 * channel + 5));
-    let upper_half =
-        (0..16).map(|channel| (channel, 8 * channel.min(7) + 8 + u8::from(channel > 7)));
-    let eight_each = (0..64).flat_map(|note| [0x90 | note / 8, 36 + note % 8, 64]);
-    let before_theft = followed(mip(upper_half), &eight_each.collect::<Vec<u8>>());
-    vec![
-        last("note-on, listed last of 16", mip((0..16).map(four_each))),
-        last("note-on, number 10, listed last of 16", mip(masked)),
-        last(
-            "note-on, number 10, unlisted, 15 listed",
-            mip((0..15).map(four_each)),
-        ),
-        case(
-            "theft, three bytes, 8 of 16 masked",
-            &before_theft,
-            &[0x90, 100, 64],
-            Target::Theft,
-        ),
     ]
 }
 

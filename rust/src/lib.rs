@@ -140,9 +140,6 @@ pub struct RefusedLog {
     pub line: u64,
 }
 
-/// What stands in the record's row of shares for a masked channel, which has no share.
-pub const NO_SHARE: u8 = 255;
-
 /// The bytes of a service page: 17 lines, each of 18 characters and a line end, 0AH.
 pub const PAGE_BYTES: usize = 323;
 
@@ -263,8 +260,7 @@ impl Device {
         answered(n.number, n.masked != 0)
     }
 
-    /// The share of a channel, 1 to 16, 0 if it is masked; number 14 for any other. The record has the same for all
-    /// channels in `instrument().shares`, but [`NO_SHARE`] for a masked one.
+    /// The share of a channel, 1 to 16, 0 if it is masked; number 14 for any other.
     pub fn share(&self, channel: u8) -> Result<u8, Refused> {
         let n = unsafe { muntinorris_share(self, channel) };
         answered(n.number, n.share)

@@ -63,16 +63,13 @@ pub struct Generators {
     pub ages: Ages,
 }
 
-/// All but the parser; `shares` and `channels` are indexed by the channel minus 1.
+/// All but the parser; `channels` is indexed by the channel minus 1.
 #[repr(C)]
 #[derive(Clone, Debug, PartialEq, Eq)]
 pub struct Instrument {
     pub polyphony: u8,
     pub id: u8,
     pub table: Table,
-    /// The share of each channel by the table, 255 ([`NO_SHARE`](crate::NO_SHARE)) for a masked one: set with the
-    /// table, and right after every call.
-    pub shares: [u8; 16],
     pub channels: [Channel; 16],
     /// Of channel 11: 0 melody, 1 rhythm.
     pub kind: u8,
@@ -221,8 +218,7 @@ pub fn layout() -> String {
     lay!("device", Device { parser: Parser, instrument: Instrument });
     lay!("parser", Parser { status: u8, count: u8, bytes: [u8; 37] });
     lay!("instrument", Instrument {
-        polyphony: u8, id: u8, table: Table, shares: [u8; 16], channels: [Channel; 16], kind: u8,
-        generators: Generators
+        polyphony: u8, id: u8, table: Table, channels: [Channel; 16], kind: u8, generators: Generators
     });
     lay!("table", Table { count: u8, entries: [Entry; 16] });
     lay!("entry", Entry { channel: u8, value: u8 });

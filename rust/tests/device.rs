@@ -1,5 +1,5 @@
 //! The device from Rust: the examples of docs/RULES.md through the linked library.
-use muntinorris::{Answer, Device, Generator, Refused, State, Was, NO_SHARE};
+use muntinorris::{Answer, Device, Generator, Refused, State, Was};
 
 fn play(device: &mut Device, bytes: &[u8]) -> Vec<Answer> {
     bytes.iter().map(|b| device.byte(*b)).filter(|a| *a != Answer::None).collect()
@@ -153,36 +153,6 @@ fn drums_on_channel_11() {
     assert_eq!((rhythm(&device), states(&device)[2]), (vec![10, 11], State::Held));
     play(&mut device, &[0xBA, 0, 121, 0xCA, 25]);
     assert_eq!((rhythm(&device), states(&device)[1], states(&device)[2]), (vec![10], State::Held, State::Releasing));
-}
-
-/// The shares stand in the record: of a start, a refused one, a table with a listed channel that is masked, a refused
-/// message, a reset. The queries answer 0 for a masked channel, as before.
-#[test]
-fn shares_stand_in_the_record() {
-    let row = |shares: &[(usize, u8)], rest: u8| {
-        let mut row = [rest; 16];
-        shares.iter().for_each(|&(channel, share)| row[channel - 1] = share);
-        row
-    };
-    let (mut device, _) = Device::start(10, 0);
-    assert_eq!(device.instrument().shares, row(&[(10, 10)], 0));
-    // Channels 3, 1, 16 and 2 with values 4, 4, 10 and 11.
-    play(&mut device, &[0xF0, 0x7F, 0x7F, 0x0B, 1, 2, 4, 0, 4, 15, 10, 1, 11, 0xF7]);
-    let table = row(&[(3, 4), (1, 0), (16, 6)], NO_SHARE);
-    assert_eq!(device.instrument().shares, table);
-    for channel in 1..=16 {
-        let share = table[channel - 1];
-        let masked = share == NO_SHARE;
-        assert_eq!(device.is_masked(channel as u8), Ok(masked));
-        assert_eq!(device.share(channel as u8), Ok(if masked { 0 } else { share }));
-    }
-    // A value that falls: number 9, and the row stays.
-    play(&mut device, &[0xF0, 0x7F, 0x7F, 0x0B, 1, 2, 4, 0, 3, 0xF7]);
-    assert_eq!(device.instrument().shares, table);
-    play(&mut device, &[0xF0, 0x7E, 0x7F, 9, 1, 0xF7]);
-    assert_eq!(device.instrument().shares, row(&[(10, 10)], 0));
-    let (refused, _) = Device::start(65, 0);
-    assert_eq!(refused.instrument().shares, row(&[(10, 1)], 0));
 }
 
 /// The record that a caller may read, after calls that put a different number in each place that is looked at.

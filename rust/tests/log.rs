@@ -264,9 +264,9 @@ fn rubbish(bytes: [u8; size_of::<Log>()]) -> Log {
 }
 
 /// The places of fields in those bytes (`record::layout`).
-const LINES: usize = 592;
-const NUMBER: usize = 600;
-const COUNT: usize = 608;
+const LINES: usize = 576;
+const NUMBER: usize = 584;
+const COUNT: usize = 592;
 
 /// Records that no begin made: the calls return, and the fields are what the header says they are.
 #[test]

@@ -19,8 +19,7 @@ pub struct Note {
     pub down: bool,
 }
 
-/// A rule that a wrong book forgets, the bound of R13.1, what R5.8 and R5.9 say of a theft or the row of R10.14 in a
-/// wrong form.
+/// A rule that a wrong book forgets, the bound of R13.1 or what R5.8 and R5.9 say of a theft in a wrong form.
 #[derive(Clone, Copy, Debug, PartialEq, Eq)]
 pub enum Slip {
     NoteOff,
@@ -37,7 +36,7 @@ pub enum Slip {
     OneTheftLess,
     OneByteLess,
     ThreeBytesANote,
-    /// What a theft takes is not looked at, nor who is masked, nor the row of shares.
+    /// What a theft takes is not looked at.
     Thefts,
     PedalNotesNotCounted,
     KeysDownFirst,
@@ -62,16 +61,6 @@ pub enum Slip {
     BankReset,
     KindReset,
     KindAtSystemOn,
-    MaskedAs0,
-    ListedMaskedAs0,
-    UnlistedAs0,
-    ShareOfListedMasked,
-    ValuesForShares,
-    FirstShareAs0,
-    Share0AsMasked,
-    RowFromChannel2,
-    RowByPriority,
-    RowOfTheStart,
 }
 
 pub const SLIPS: [Slip; 11] = [
@@ -120,20 +109,6 @@ pub const WRONG_THEFTS: [(Slip, &str); 3] = [
     (Slip::OldestOfBothKinds, "R5.9"),
 ];
 
-/// What can be wrong about the row of shares.
-pub const WRONG_ROWS: [Slip; 10] = [
-    Slip::MaskedAs0,
-    Slip::ListedMaskedAs0,
-    Slip::UnlistedAs0,
-    Slip::ShareOfListedMasked,
-    Slip::ValuesForShares,
-    Slip::FirstShareAs0,
-    Slip::Share0AsMasked,
-    Slip::RowFromChannel2,
-    Slip::RowByPriority,
-    Slip::RowOfTheStart,
-];
-
 #[derive(Clone, Debug)]
 pub struct Book {
     polyphony: u8,
@@ -175,10 +150,6 @@ impl Book {
     /// The notes of generators 0 to P − 1.
     pub fn notes(&self) -> &[Option<Note>] {
         &self.notes[..usize::from(self.polyphony)]
-    }
-
-    pub fn polyphony(&self) -> u8 {
-        self.polyphony
     }
 
     /// Channel minus 1 and value, by falling priority.
@@ -412,15 +383,6 @@ impl Book {
     /// Has it no rule wrong?
     pub fn is_right(&self) -> bool {
         self.slip.is_none()
-    }
-
-    /// Is the row of shares held against it? A book that is wrong elsewhere may have another table.
-    pub fn has_row(&self) -> bool {
-        self.slip.is_none_or(|slip| WRONG_ROWS.contains(&slip))
-    }
-
-    pub fn slip(&self) -> Option<Slip> {
-        self.slip
     }
 
     /// Is this rule forgotten, or wrong?

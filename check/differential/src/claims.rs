@@ -1,5 +1,5 @@
-//! Demand 3's claims (R10.1 to R10.10), who is refused as masked (R10.11), the row of shares (R10.14), the most thefts
-//! (R13.2) and what a theft takes (R5.7 to R5.9), held against what ran.
+//! Demand 3's claims (R10.1 to R10.10), that of the most thefts (R13.2) and what a theft takes (R5.7 to R5.9), held
+//! against what ran.
 //!
 //! The book is kept beside the devices; nothing here looks into a device except to compare.
 
@@ -7,7 +7,6 @@ use crate::book::{Book, Note, Seen, Slip};
 use crate::drums::SECOND_DRUM_CHANNEL;
 use crate::lists::Event;
 use crate::record::Record;
-use crate::rows;
 use crate::split::{Message, Splitter};
 use crate::thefts::{self, Theft};
 use paper::{Answer, GeneratorView, Number, State, Was, MOST_GENERATORS};
@@ -135,7 +134,6 @@ impl Claims {
             _ => None,
         };
         if let Some((channel, key)) = note_on {
-            masked(&self.book, channel, answer)?;
             self.count_note_on(channel, key, answer, exercised)?;
         }
         let had = note_on.map(|_| self.book.clone());
@@ -234,12 +232,9 @@ impl Claims {
         Ok(())
     }
 
-    /// R10.14: the row of shares; R10.2: busy is who has a note in the book; R10.10: the older of two sounding
-    /// generators is the one whose last *note* answer came earlier.
+    /// R10.2: busy is who has a note in the book; R10.10: the older of two sounding generators is the one whose last
+    /// *note* answer came earlier.
     pub fn record(&self, record: &Record) -> Result<(), String> {
-        if self.book.has_row() {
-            rows::agree(record, &self.book)?;
-        }
         for (g, view) in record.generators.iter().enumerate() {
             let note = self.book.notes().get(g).copied().flatten();
             if busy(*view) != note.map(as_generator) {
@@ -276,20 +271,6 @@ fn sounding_are_ordered(record: &Record) -> Result<(), String> {
         ));
     }
     Ok(())
-}
-
-/// R10.11: a note-on is answered with number 10 where its channel is masked, and nowhere else.
-fn masked(book: &Book, channel: u8, answer: Answer) -> Result<(), String> {
-    let masked = book.share(channel).is_none();
-    let refused = answer.number() == Some(Number::ChannelMasked);
-    if !book.is_right() || masked == refused {
-        return Ok(());
-    }
-    Err(format!(
-        "R10.11: channel {} is {} by the book, yet its note-on answers {answer:?}",
-        channel + 1,
-        if masked { "masked" } else { "not masked" }
-    ))
 }
 
 /// R10.9: a theft, or a refusal on an unmasked channel, needs a note on every generator, none of them one that the new

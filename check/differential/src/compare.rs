@@ -141,7 +141,6 @@ where
         let (mut b, answer_b) = (self.start_b)(list.polyphony, list.id);
         let answer = same("start", answer_a, answer_b)?;
         reached.tally.answer(answer);
-        reached.tally.rows.start(answer);
         let mut claims = Claims::new(list.polyphony, list.id, answer, self.slip);
         let mut record = same_record(&a, &b)?;
         claims.record(&record)?;
@@ -155,7 +154,6 @@ where
             claims.event(event, answer, &mut reached.claims)?;
             let before = std::mem::replace(&mut record, same_record(&a, &b)?);
             reached.tally.eleven.event(event, answer, &before, &record);
-            reached.tally.rows.event(event, answer, &before, &record);
             claims.record(&record)?;
             queries(&a, &b, random, &mut reached.tally, claims.book())?;
             if random.one_in(8) {
@@ -193,7 +191,7 @@ fn count(tally: &mut Tally, event: Event, answer: Answer, before: &Record) {
     }
 }
 
-pub fn happen(device: &mut impl Implementation, event: Event) -> Given<Answer> {
+fn happen(device: &mut impl Implementation, event: Event) -> Given<Answer> {
     match event {
         Event::Byte(byte) => device.byte(byte),
         Event::Report(generator) => device.report(generator),
@@ -243,44 +241,16 @@ fn queries(
         "generator query",
         a.generator(generator),
         b.generator(generator),
-    )?;
-    let masked = same("mask query", a.masked(channel), b.masked(channel))?;
-    let share = same("share query", a.share(channel), b.share(channel))?;
-    table_queries(channel, masked, share, book)?;
-    tally.rows.queried(masked);
+    );
+    let masked = same("mask query", a.masked(channel), b.masked(channel));
+    let share = same("share query", a.share(channel), b.share(channel));
     rhythm_query(a, b, channel, book)?;
     // A channel of the record, by the number that is drawn already.
     let wire = usize::from(channel) % 16;
     let words = || format!("gains query: channel {}", wire + 1);
     Compared::default().take(words, &a.gains(wire), &b.gains(wire))?;
-    let numbers: [Option<Number>; 3] = [view.err(), masked.err(), share.err()];
+    let numbers: [Option<Number>; 3] = [view?.err(), masked?.err(), share?.err()];
     numbers.into_iter().flatten().for_each(|n| tally.query(n));
-    Ok(())
-}
-
-/// A right book knows masks and shares too, from its table and P (R7.5, R7.6).
-fn table_queries(
-    channel: u8,
-    masked: Result<bool, Number>,
-    share: Result<u8, Number>,
-    book: &Book,
-) -> Result<(), String> {
-    let known = match channel {
-        1..=16 => Ok(book.share(channel - 1)),
-        _ => Err(Number::NoSuchChannel),
-    };
-    let is_masked = known.map(|share| share.is_none());
-    let its_share = known.map(|share| share.unwrap_or(0) as u8);
-    if book.is_right() && masked != is_masked {
-        return Err(format!(
-            "mask query: {masked:?} for channel {channel}, the book says {is_masked:?}"
-        ));
-    }
-    if book.is_right() && share != its_share {
-        return Err(format!(
-            "share query: {share:?} for channel {channel}, the book says {its_share:?}"
-        ));
-    }
     Ok(())
 }
 

@@ -5,6 +5,17 @@ use crate::lists::Event;
 use crate::record::Record;
 use paper::{Answer, GeneratorView, Number, Progress, State, Was};
 
+/// Each with its words.
+macro_rules! met {
+    ($($name:ident: $words:literal,)*) => {
+        #[derive(Clone, Copy)]
+        enum Met { $($name,)* }
+        const WORDS: &[&str] = &[$($words,)*];
+        const ROWS: usize = WORDS.len();
+        const _: [Met; ROWS] = [$(Met::$name,)*];
+    };
+}
+
 met! {
     RhythmEndsHeld: "11 to rhythm, held ones end",
     RhythmEndsPedalNotes: "11 to rhythm, pedal notes end",
@@ -79,7 +90,7 @@ fn has(record: &Record, channel: u8, which: impl Fn(GeneratorView) -> bool) -> b
     sounding(record, channel).any(|(_, view)| which(view))
 }
 
-pub fn is_busy(view: GeneratorView) -> bool {
+fn is_busy(view: GeneratorView) -> bool {
     matches!(view.state, State::Held | State::Sustained)
 }
 
@@ -88,7 +99,7 @@ fn is_held(view: GeneratorView) -> bool {
 }
 
 /// The channel message that a byte completes.
-pub fn completed(event: Event, before: &Record) -> Option<(u8, u8, u8)> {
+fn completed(event: Event, before: &Record) -> Option<(u8, u8, u8)> {
     match (event, before.progress) {
         (Event::Byte(byte @ 0..=0x7F), Progress::StatusAndData(status, first)) => {
             Some((status, first, byte))

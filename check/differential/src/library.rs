@@ -479,10 +479,6 @@ impl Implementation for Lent {
         self.neighbours_untouched()?;
         record_of(&self.device, self.status, self.data)
     }
-
-    fn overwrite_shares(&mut self, shares: [u8; 16]) {
-        self.device.instrument.shares = shares;
-    }
 }
 
 /// The record of a device whose last status byte and last data byte were these.
@@ -492,7 +488,6 @@ pub fn record_of(device: &Device, status: u8, data: u8) -> Given<Record> {
         polyphony: instrument.polyphony,
         id: instrument.id,
         entries: entries_of(&instrument.table)?,
-        shares: instrument.shares,
         channels: instrument.channels,
         second_drums: rhythm_of(instrument.kind)?,
         generators: generators_of(&instrument.generators)?,

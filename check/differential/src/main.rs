@@ -1,12 +1,9 @@
-//! `differential`: the proved library and the second implementation on the same events and logs, on the same records
-//! with another row of shares, and asked for the same pages, pitches, gains and songs.
+//! `differential`: the proved library and the second implementation on the same events and logs, and asked for the same
+//! pages, pitches, gains and songs.
 //!
-//! `--events N`, `--rows N`, `--logs N` and `--seed S` choose the run; `--all-pitches` asks for every pitch there is,
-//! not for a sample; `--self-test` shows instead that the comparison finds wrong variants. The exit code is 0 only if
-//! nothing differed and every answer was reached.
-
-#[macro_use]
-mod met;
+//! `--events N`, `--logs N` and `--seed S` choose the run; `--all-pitches` asks for every pitch there is, not for a
+//! sample; `--self-test` shows instead that the comparison finds wrong variants. The exit code is 0 only if nothing
+//! differed and every answer was reached.
 
 mod arranging;
 mod arranging_self_test;
@@ -32,15 +29,10 @@ mod pages_self_test;
 mod pitches;
 mod record;
 mod reference;
-mod row_tally;
-mod rows;
 mod self_test;
-mod shared_rows;
 mod song;
 mod split;
 mod staged_thefts;
-mod standing_rows;
-mod standing_rows_self_test;
 mod tally;
 mod thefts;
 mod writer;
@@ -65,8 +57,6 @@ use tally::Tally;
 
 struct Options {
     events: u64,
-    /// Records whose row of shares is overwritten.
-    rows: u64,
     logs: u64,
     seed: u64,
     all_pitches: bool,
@@ -76,7 +66,6 @@ struct Options {
 fn options() -> Result<Options, String> {
     let mut options = Options {
         events: 5_000_000,
-        rows: 20_000,
         logs: 60_000,
         seed: 1,
         all_pitches: false,
@@ -92,7 +81,6 @@ fn options() -> Result<Options, String> {
         };
         match argument.as_str() {
             "--events" => options.events = number()?,
-            "--rows" => options.rows = number()?,
             "--logs" => options.logs = number()?,
             "--seed" => options.seed = number()?,
             "--all-pitches" => options.all_pitches = true,
@@ -146,7 +134,6 @@ fn differential(options: &Options) -> Result<(), String> {
         ));
     }
     let seconds = clock.elapsed().as_secs_f64();
-    let standing = standing_rows(options)?;
     let tally = &mut reached.tally;
     tally.refused(Number::PageTooShort, reached.pages.refused);
     let arranged = logs(options, tally)?;
@@ -161,8 +148,7 @@ fn differential(options: &Options) -> Result<(), String> {
     print(&reached, seconds);
     println!("{nowhere} calls for a page without a buffer, each refused");
     rubbish(options.seed)?;
-    let mut missing = missing(&reached, &held, &arranged);
-    missing.extend(standing.missing());
+    let missing = missing(&reached, &held, &arranged);
     if !missing.is_empty() {
         return Err(format!("never reached: {}", missing.join(", ")));
     }
@@ -185,24 +171,6 @@ fn missing(reached: &Reached, held: &Held, arranged: &arranging::Reached) -> Vec
     missing.extend(reached.pages.missing());
     missing.extend(arranged.missing());
     missing
-}
-
-/// Records of both sides with another row of shares than their table's.
-fn standing_rows(options: &Options) -> Result<standing_rows::Reached, String> {
-    let clock = Instant::now();
-    let comparison = standing_rows::Comparison {
-        start_a: reference::start,
-        start_b: library::start,
-    };
-    let reached = comparison.run(options.seed, options.rows)?;
-    println!(
-        "{} records with another row of shares, {} events behind them, no difference, {:.1} s; {}",
-        reached.records,
-        reached.events,
-        clock.elapsed().as_secs_f64(),
-        reached.words()
-    );
-    Ok(reached)
 }
 
 /// Logs of songs, each given to both sides whole and in parts.

@@ -9,7 +9,6 @@ use crate::book::Book;
 use crate::compare::{same, same_record};
 use crate::library;
 use crate::record::{Implementation, Record};
-use crate::rows;
 use crate::split::Message;
 use paper::{Answer, Entry, GeneratorView, Number, State, PAGE_BYTES};
 use random::Random;
@@ -100,7 +99,7 @@ pub fn some_length(random: &mut Random) -> usize {
 }
 
 /// A MIP message without F0 and F7: some channels in any order, with values from 0 to P, to one more or to 127.
-pub fn some_table(random: &mut Random, polyphony: u8) -> Vec<u8> {
+fn some_table(random: &mut Random, polyphony: u8) -> Vec<u8> {
     let mut channels: Vec<u8> = (0..16).collect();
     random.shuffle(&mut channels);
     channels.truncate(1 + random.below(16));
@@ -277,9 +276,6 @@ impl Pages {
         }
         let record = same_record(&a, &b).map_err(next)?;
         book.message(&Message::SysEx(table.clone()), last);
-        if book.has_row() {
-            rows::agree(&record, &book).map_err(next)?;
-        }
         let found = self.compare(length, &mut a, &mut b, &record, &book);
         found.map_err(|what| format!("{what}, behind the table {table:02X?}"))
     }

@@ -54,11 +54,6 @@ impl SysExBytes {
             more: bytes.len() > HEAD_BYTES + PAIR_BYTES,
         }
     }
-
-    /// The first ones.
-    pub fn first(&self) -> &[u8] {
-        self.first.as_slice()
-    }
 }
 
 /// Something that no implementation may give or hold, as it was found.
@@ -74,8 +69,6 @@ pub struct Record {
     pub polyphony: u8,
     pub id: u8,
     pub entries: Items<Entry, 16>,
-    /// The row: by channel its share, 255 for a masked one (R2.10).
-    pub shares: [u8; 16],
     pub channels: [[u8; 13]; 16],
     /// The kind of channel 11: rhythm, or melody.
     pub second_drums: bool,
@@ -96,7 +89,6 @@ pub fn difference(a: &Record, b: &Record) -> Option<String> {
         field("P", &a.polyphony, &b.polyphony),
         field("ID", &a.id, &b.id),
         field("table", &a.entries.as_slice(), &b.entries.as_slice()),
-        first_of("row of shares, channel", 1, &a.shares, &b.shares),
         first_of("numbers of channel", 1, &a.channels, &b.channels),
         field("channel 11 rhythm", &a.second_drums, &b.second_drums),
         first_of("generator", 0, &a.generators, &b.generators),
@@ -138,6 +130,4 @@ pub trait Implementation: Clone {
     /// The gains of a channel on the wire, 0 to 15.
     fn gains(&self, channel: usize) -> Answered;
     fn record(&self) -> Given<Record>;
-    /// Another row of shares, as no call leaves it.
-    fn overwrite_shares(&mut self, shares: [u8; 16]);
 }

@@ -97,7 +97,6 @@ impl Implementation for Device {
             polyphony: self.polyphony(),
             id: self.id(),
             entries: Items::new(Entry::default(), self.table().entries().iter().copied()),
-            shares: self.shares(),
             channels: self.channels().map(|channel| channel.numbers()),
             second_drums: self.second_drums(),
             generators,
@@ -105,9 +104,5 @@ impl Implementation for Device {
             progress,
             sysex,
         })
-    }
-
-    fn overwrite_shares(&mut self, shares: [u8; 16]) {
-        *self = self.with_shares(shares);
     }
 }

@@ -1,11 +1,11 @@
 //! Shows that the comparison can fail: deliberately wrong implementations and books must be found.
 
-use crate::book::{Slip, SLIPS, SLIPS_OF_KINDS, WRONG_BOUNDS, WRONG_ROWS, WRONG_THEFTS};
+use crate::book::{Slip, SLIPS, SLIPS_OF_KINDS, WRONG_BOUNDS, WRONG_THEFTS};
 use crate::compare::{Comparison, Failure};
 use crate::record::Given;
 use crate::{
     arranging_self_test, gains_self_test, hardest_song_self_test, pages_self_test, pitches,
-    reference, shared_rows, standing_rows_self_test, wrong_device, wrong_pitch,
+    reference, wrong_device, wrong_pitch,
 };
 use paper::{Number, Pitch};
 use random::Random;
@@ -16,7 +16,7 @@ use wrong::Fault;
 const WITHIN: u64 = 1_000_000;
 
 /// Mistakes that both sides make alike: the comparison cannot see them, the claims must. Here they must without those
-/// of what a theft takes, of masks and of the row of shares. More of them are in `shared_rows`.
+/// of what a theft takes.
 const SHARED: [(&str, &str); 23] = [
     ("StartingOrderByChannel", "channel 10 never had more"),
     ("StartingOrderBeginsWithOne", "yet its note-on"),
@@ -246,7 +246,6 @@ pub fn variants<Slip: Copy>(
 pub fn run(seed: u64) -> Vec<String> {
     let mut complaints = wrong_devices(seed);
     complaints.extend(wrong_books(seed));
-    complaints.extend(standing_rows_self_test::run(seed));
     complaints.extend(pages_self_test::run(seed));
     complaints.extend(wrong_pitches(seed));
     complaints.extend(wrong_entries(seed));
@@ -268,19 +267,16 @@ fn wrong_devices(seed: u64) -> Vec<String> {
     if let (_, Some(failure)) = right.run(seed, WITHIN) {
         complaints.push(format!("no mistake at all: {failure}"));
     }
-    let faults = [wrong::DEVICE, wrong::SECOND_DRUMS, wrong::SHARES].concat();
+    let faults = [wrong::DEVICE, wrong::SECOND_DRUMS].concat();
     let devices = variants(&faults, &wrong_device::GAINS_SLIPS);
     for variant in &devices {
         complaints.extend(expect(variant.name, "", one_side(variant, seed)));
     }
     let shared_mode = SHARED_MODE.map(|name| (name, "the book has"));
-    let by_demand_3 = SHARED_KINDS.into_iter().chain(shared_rows::BY_DEMAND_3);
-    let by_demand_3 = by_demand_3.map(|name| (name, "demand 3"));
-    let shared = SHARED.into_iter().chain(shared_mode).chain(by_demand_3);
+    let shared_kinds = SHARED_KINDS.map(|name| (name, "demand 3"));
+    let shared = SHARED.into_iter().chain(shared_mode).chain(shared_kinds);
     let shared = shared.map(|row| (row, Some(Slip::Thefts)));
     let without_slip = SHARED_THEFTS.into_iter().chain(SHARED_QUERIES);
-    let rows = shared_rows::BY_THE_ROW.map(|name| (name, "R10.14: "));
-    let without_slip = without_slip.chain(rows).chain(shared_rows::BY_OTHERS);
     let without_slip = without_slip.map(|row| (row, None));
     for ((name, claim), slip) in shared.chain(without_slip) {
         let variant = devices.iter().find(|variant| variant.name == name);
@@ -295,8 +291,7 @@ fn wrong_books(seed: u64) -> Vec<String> {
     let books = SLIPS.into_iter().chain(SLIPS_OF_KINDS);
     let books = books.map(|slip| (slip, "demand 3"));
     let bounds = WRONG_BOUNDS.map(|slip| (slip, "R13.2"));
-    let rows = WRONG_ROWS.map(|slip| (slip, "R10.14"));
-    let wrong = books.chain(bounds).chain(WRONG_THEFTS).chain(rows);
+    let wrong = books.chain(bounds).chain(WRONG_THEFTS);
     let expected = |(slip, claim)| {
         let name = format!("book with {slip:?} wrong");
         expect(&name, claim, wrong_book(slip, seed))

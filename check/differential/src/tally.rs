@@ -1,10 +1,9 @@
-//! Counts what was reached: every kind of answer and every number must be, and what reports, mode messages, thefts,
-//! channel 11 and the row of shares can find.
+//! Counts what was reached: every kind of answer and every number must be, and what reports, mode messages, thefts and
+//! channel 11 can find.
 
 use crate::drums::DRUM_CHANNEL;
 use crate::eleven_tally::ElevenTally;
 use crate::record::Record;
-use crate::row_tally::RowTally;
 use paper::{Answer, GeneratorView, Number, State, Was};
 use std::fmt;
 
@@ -76,7 +75,6 @@ pub struct Tally {
     /// pedal notes: without R5.9, or with pedal notes sought everywhere, another would have gone.
     thefts: [u64; 4],
     pub eleven: ElevenTally,
-    pub rows: RowTally,
     /// Numbers that starts, bytes and reports answered.
     numbers: [u64; PLACES],
     /// Numbers that queries, pitches, gains, songs, logs and pages gave, apart: 1 and 12 have both.
@@ -170,7 +168,7 @@ impl Tally {
         let kinds = kinds.chain(MODE_MESSAGES.iter().zip(self.mode_messages));
         let kinds = kinds.chain(THEFTS.iter().zip(self.thefts));
         let kinds = kinds.map(|(&name, count)| (name, count));
-        let kinds = kinds.chain(self.eleven.rows()).chain(self.rows.rows());
+        let kinds = kinds.chain(self.eleven.rows());
         let kinds = kinds.map(|(name, count)| (name.to_string(), count));
         let numbers = NUMBERS[..13].iter();
         let numbers = numbers.map(move |&named| row(named, &self.numbers));

@@ -107,7 +107,6 @@ pub fn record_of(device: &wrong::Device) -> Record {
         polyphony: device.polyphony(),
         id: device.id(),
         entries: Items::new(Entry::default(), device.table().entries().iter().map(entry)),
-        shares: device.shares(),
         channels: device.channels().map(|channel| channel.numbers()),
         second_drums: device.second_drums(),
         generators: std::array::from_fn::<_, MOST_GENERATORS, _>(view),
@@ -160,9 +159,5 @@ impl Implementation for WrongDevice {
 
     fn record(&self) -> Given<Record> {
         Ok(record_of(&self.device))
-    }
-
-    fn overwrite_shares(&mut self, shares: [u8; 16]) {
-        self.device = self.device.with_shares(shares);
     }
 }

@@ -137,8 +137,8 @@ impl Device {
         }
     }
 
-    /// Step 5 (R5.7 to R5.10): of the channels above their share in the row, sustained ones and the new note counted,
-    /// the one of lowest priority loses a generator, if it has one.
+    /// Step 5 (R5.7 to R5.10): of the channels above their share, sustained ones and the new note counted, the one of
+    /// lowest priority loses a generator, if it has one.
     fn victim(&self, new_note: u8) -> Option<u8> {
         let over = |&(channel, share): &(u8, u8)| {
             self.generators.busy_count(channel) + u8::from(channel == new_note) > share
@@ -233,13 +233,11 @@ impl Device {
         }
     }
 
-    /// An accepted message is the table from now on (R2.7). Who is busy on a channel that the row before did not mask
-    /// and the new one does releases (R2.8).
+    /// An accepted message is the table from now on (R2.7); who is busy on a channel that it masks releases (R2.8).
     fn replace_table(&mut self, table: Table) -> Answer {
-        let before = self.table;
         self.table = table;
         for channel in 0..16 {
-            if before.share(channel).is_some() && self.table.share(channel).is_none() {
+            if self.table.share(channel).is_none() {
                 self.generators.release_channel(channel);
             }
         }
@@ -247,7 +245,7 @@ impl Device {
     }
 }
 
-/// The queries (R7.3 to R7.7). Masks and shares are those of the table and P, not of the row (R2.14).
+/// The queries (R7.3 to R7.7).
 impl Device {
     /// A generator's state, channel (from 1) and key.
     pub fn generator(&self, generator: u8) -> Result<GeneratorView, Number> {
@@ -259,16 +257,12 @@ impl Device {
 
     /// Whether a channel, 1 to 16, is masked.
     pub fn masked(&self, channel: u8) -> Result<bool, Number> {
-        Ok(self.share_by_value(wire(channel)?).is_none())
+        Ok(self.table.share(wire(channel)?).is_none())
     }
 
     /// The share of a channel, 1 to 16, 0 for a masked one (R7.6).
     pub fn share(&self, channel: u8) -> Result<u8, Number> {
-        Ok(self.share_by_value(wire(channel)?).unwrap_or(0))
-    }
-
-    fn share_by_value(&self, channel: u8) -> Option<u8> {
-        self.table.share_by_value(channel, self.polyphony)
+        Ok(self.table.share(wire(channel)?).unwrap_or(0))
     }
 
     /// Whether a channel is a rhythm channel; what is not 1 to 16 is none (R7.7).
@@ -313,19 +307,6 @@ impl Device {
 
     pub fn table(&self) -> &Table {
         &self.table
-    }
-
-    /// The row of shares: by channel its share, 255 for a masked one (R2.10).
-    pub fn shares(&self) -> [u8; 16] {
-        self.table.shares()
-    }
-
-    /// The same with another row. No call leaves such a record, but the row counts as it stands (R2.13).
-    pub fn with_shares(self, shares: [u8; 16]) -> Device {
-        Device {
-            table: self.table.with_shares(shares),
-            ..self
-        }
     }
 
     pub fn channels(&self) -> &[Channel; 16] {

@@ -32,4 +32,4 @@ pub use page::PAGE_BYTES;
 pub use parser::{Parser, Progress, SysEx, HEAD_BYTES, PAIR_BYTES};
 pub use pitch::{pitch, Pitch};
 pub use song::{most_thefts, write_song, LONGEST_SONG};
-pub use table::{Entry, Table, MASKED};
+pub use table::{Entry, Table};

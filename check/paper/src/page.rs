@@ -38,11 +38,7 @@ impl Device {
 
     /// The line of a channel on the wire, with its place and value if it is listed.
     fn row(&self, wire: u8, listed: Option<(u8, u8)>, row: &mut [u8]) {
-        // R2.14: by value and P, not from the row.
-        let share = listed.and_then(|(place, _)| {
-            let place = usize::from(place) - 1;
-            self.table().share_at(place, self.polyphony())
-        });
+        let share = self.table().share(wire);
         row.fill(b' ');
         put(&mut row[0..2], Some(wire + 1));
         put(&mut row[3..5], listed.map(|(place, _)| place));

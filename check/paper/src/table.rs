@@ -1,5 +1,4 @@
-//! The MIP table with its row of shares: who is masked, what each channel's share is, and how a message's pairs are
-//! judged.
+//! The MIP table: who is masked, what each channel's share is, and how a message's pairs are judged.
 //!
 //! Channels are wire numbers here, 0 to 15.
 
@@ -15,14 +14,16 @@ pub struct Entry {
     pub value: u8,
 }
 
-/// What stands in the row for a masked channel. It is no share (R2.12).
-pub const MASKED: u8 = 255;
+/// The share of a channel that has none.
+const MASKED: u8 = 255;
 
 #[derive(Clone, Copy, Debug)]
 pub struct Table {
     entries: [Entry; 16],
     length: u8,
-    /// The row of shares, by channel (R2.10). It counts as it stands, whatever the entries say (R2.13).
+    /// How many entries, from the first, are unmasked: values never fall, so these are all.
+    unmasked: u8,
+    /// The share of each channel, or `MASKED`: what the entries say, worked out once for each table.
     shares: [u8; 16],
 }
 
@@ -36,23 +37,24 @@ impl Table {
         Table::new(entries, 16, polyphony)
     }
 
-    /// No table is set but by way of this, so that its row always comes with it (R2.11).
+    /// Who is unmasked (R2.2, R2.3), and the shares (R2.4, R2.5).
     fn new(entries: [Entry; 16], length: u8, polyphony: u8) -> Table {
-        let mut shares = [MASKED; 16];
+        let mut table = Table {
+            entries,
+            length,
+            unmasked: 0,
+            shares: [MASKED; 16],
+        };
         let mut before = 0;
         for entry in &entries[..usize::from(length)] {
-            // Values never fall: whoever follows is masked too.
             if entry.value > polyphony {
                 break;
             }
-            shares[usize::from(entry.channel)] = entry.value - before;
+            table.shares[usize::from(entry.channel)] = entry.value - before;
+            table.unmasked += 1;
             before = entry.value;
         }
-        Table {
-            entries,
-            length,
-            shares,
-        }
+        table
     }
 
     /// Judges the pairs of a MIP message, at most 32 bytes: 6 first, then pair by pair 7, 8, 9 (R3.4, R3.5).
@@ -82,9 +84,7 @@ impl Table {
         Ok(Table::new(entries, (pairs.len() / 2) as u8, polyphony))
     }
 
-    /// The share of a channel as it stands in the row, none if it is masked there. Steps 1 and 5 read it, and so does
-    /// who asks which channels a new table masks (R2.13).
-    #[inline]
+    /// The share of a channel, or `None` if it is masked.
     pub(crate) fn share(&self, channel: u8) -> Option<u8> {
         match self.shares[usize::from(channel)] {
             MASKED => None,
@@ -92,44 +92,18 @@ impl Table {
         }
     }
 
-    /// The listed channels that the row does not mask, with their shares there, the lowest priority first. Who is not
-    /// listed has no priority.
+    /// The unmasked channels with their shares, the lowest priority first.
     pub(crate) fn lowest_priority_first(&self) -> impl Iterator<Item = (u8, u8)> + '_ {
-        let channels = self.entries().iter().rev().map(|entry| entry.channel);
-        channels.filter_map(|channel| Some((channel, self.share(channel)?)))
-    }
-
-    /// The share of a channel by entries and P (R2.2 to R2.5), whatever the row says, none if it is masked: this is
-    /// what queries answer (R2.14).
-    pub(crate) fn share_by_value(&self, channel: u8, polyphony: u8) -> Option<u8> {
-        let mut entries = self.entries().iter();
-        let place = entries.position(|entry| entry.channel == channel)?;
-        self.share_at(place, polyphony)
-    }
-
-    /// The same of the channel at a place, from 0.
-    pub(crate) fn share_at(&self, place: usize, polyphony: u8) -> Option<u8> {
-        let value = self.entries[place].value;
-        let below = match place {
-            0 => 0,
-            _ => self.entries[place - 1].value,
-        };
-        (value <= polyphony).then(|| value - below)
+        let unmasked = &self.entries[..usize::from(self.unmasked)];
+        unmasked
+            .iter()
+            .rev()
+            .map(|entry| (entry.channel, self.shares[usize::from(entry.channel)]))
     }
 
     /// The entries, by falling priority.
     pub fn entries(&self) -> &[Entry] {
         &self.entries[..usize::from(self.length)]
-    }
-
-    /// The row of shares, by channel, 255 for a masked one.
-    pub fn shares(&self) -> [u8; 16] {
-        self.shares
-    }
-
-    /// The same entries with another row.
-    pub(crate) fn with_shares(self, shares: [u8; 16]) -> Table {
-        Table { shares, ..self }
     }
 }
 

@@ -138,16 +138,14 @@ pub struct Instrument {
     pub polyphony: u8,
     pub id: u8,
     pub table: Table,
-    /// By channel its share, 255 for a masked one.
-    pub shares: [u8; 16],
     pub channels: [Channel; 16],
     /// Of channel 11: 1 for rhythm, 0 for melody.
     pub kind: u8,
     pub generators: Generators,
 }
 
-/// "The device record, 556 bytes without padding."
-pub const RECORD_BYTES: usize = 556;
+/// "The device record, 540 bytes without padding."
+pub const RECORD_BYTES: usize = 540;
 
 /// `struct muntinorris_device`.
 #[repr(C)]
@@ -185,7 +183,7 @@ pub struct Log {
 }
 
 /// The record of a log, its padding included.
-pub const LOG_BYTES: usize = 616;
+pub const LOG_BYTES: usize = 600;
 
 /// The memory of a log: all its bytes, so that padding can be looked at too.
 #[repr(C, align(8))]
@@ -204,9 +202,8 @@ const _: () = assert!(
     std::mem::size_of::<Device>() == RECORD_BYTES
         && std::mem::align_of::<Device>() == 1
         && std::mem::offset_of!(Device, instrument) == 39
-        && std::mem::offset_of!(Instrument, shares) == 35
-        && std::mem::offset_of!(Instrument, channels) == 51
-        && std::mem::offset_of!(Instrument, kind) == 259
+        && std::mem::offset_of!(Instrument, channels) == 35
+        && std::mem::offset_of!(Instrument, kind) == 243
 );
 
 const _: () = assert!(
@@ -219,10 +216,10 @@ const _: () = assert!(
     std::mem::size_of::<Log>() == LOG_BYTES
         && std::mem::align_of::<Log>() == std::mem::align_of::<LogMemory>()
         && std::mem::offset_of!(Logged, order) == RECORD_BYTES
-        && std::mem::offset_of!(Logged, most) == 572
-        && std::mem::offset_of!(Logged, lines) == 592
-        && std::mem::offset_of!(Logged, number) == 600
-        && std::mem::offset_of!(Log, line) == 608
+        && std::mem::offset_of!(Logged, most) == 556
+        && std::mem::offset_of!(Logged, lines) == 576
+        && std::mem::offset_of!(Logged, number) == 584
+        && std::mem::offset_of!(Log, line) == 592
 );
 
 extern "C" {

@@ -2,7 +2,7 @@
 
 use crate::answer::Number;
 use crate::generators::Generators;
-use crate::{Device, Entry, Event, GeneratorView, Parser, Progress, State, MASKED};
+use crate::{Device, Event, GeneratorView, Parser, Progress, State};
 
 /// The number of a MIP message whose pairs are judged by number 7 all, then by 8, then by 9.
 pub fn kind_by_kind(pairs: &[u8]) -> Option<Number> {
@@ -186,63 +186,4 @@ pub fn value_of_channel(device: &Device, wire: u8) -> u8 {
         .iter()
         .find(|entry| entry.channel == wire);
     entry.map_or(0, |entry| entry.value)
-}
-
-/// A row that has for each listed channel what this says of its place, from 0, its value and the one before it, and 255
-/// for every other.
-pub fn row(entries: &[Entry], number: impl Fn(usize, u8, u8) -> u8) -> [u8; 16] {
-    let mut row = [MASKED; 16];
-    let mut before = 0;
-    for (place, entry) in entries.iter().enumerate() {
-        row[usize::from(entry.channel)] = number(place, entry.value, before);
-        before = entry.value;
-    }
-    row
-}
-
-/// The place of a channel on the wire among these entries, from 0; 0 if it is not there.
-pub fn place(entries: &[Entry], channel: u8) -> usize {
-    let mut entries = entries.iter();
-    entries
-        .position(|entry| entry.channel == channel)
-        .unwrap_or(0)
-}
-
-/// Is a channel on the wire among these entries?
-pub fn is_listed(entries: &[Entry], channel: u8) -> bool {
-    entries.iter().any(|entry| entry.channel == channel)
-}
-
-/// The row of a MIP message's pairs as far as they are right, whatever is wrong about the others.
-pub fn row_of_pairs(pairs: &[u8], polyphony: u8) -> [u8; 16] {
-    let pairs = pairs.chunks_exact(2).filter(|pair| pair[0] < 16);
-    let entries: Vec<Entry> = pairs
-        .map(|pair| Entry {
-            channel: pair[0],
-            value: pair[1],
-        })
-        .collect();
-    row(&entries, |_, value, before| match value <= polyphony {
-        true => value.saturating_sub(before),
-        false => MASKED,
-    })
-}
-
-/// The row with another number for one channel on the wire.
-pub fn with(mut row: [u8; 16], channel: u8, number: u8) -> [u8; 16] {
-    row[usize::from(channel)] = number;
-    row
-}
-
-/// The row of the starting table.
-pub fn starting_row(polyphony: u8) -> [u8; 16] {
-    with([0; 16], 9, polyphony)
-}
-
-/// One less, if it is a share above 0.
-pub fn one_less(share: u8) -> u8 {
-    match share {
-        0 | MASKED => share,
-        _ => share - 1,
-    }
 }

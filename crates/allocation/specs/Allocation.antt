@@ -1,9 +1,8 @@
 -- A note-on with a velocity above 0: steps 1 to 5, and the assignment.
-use Rattle.std.specs.Prelude.{ℕ, Bool, true, false, List}
+use Rattle.std.specs.Prelude.{ℕ, Bool, true, false}
 use Rattle.loops.specs.Cases.{if◌then◌else◌}
 use Rattle.table.specs.declared.Table.{Table}
-use Rattle.shares.specs.Shares.{is_masked}
-use Rattle.shares.specs.Row.{share_in}
+use Rattle.shares.specs.Shares.{share_of, is_masked}
 use Rattle.generators.specs.declared.Generators.{Generators}
 use Rattle.generators.specs.Generators.{assigned}
 use Rattle.releases.specs.declared.Change.TheVariants.{ReleaseNote}
@@ -39,11 +38,11 @@ or_else Nothing w t = t
 
 -- R5.5, R5.6: step 4, the lowest idle one, else the oldest releasing one; R5.9: else step 5 steals; R5.10, R8.11:
 -- else number 11
-unfoldable pub choice : Generators → Table → List ℕ → ℕ → ℕ → Taken
-choice s t row p c =
+unfoldable pub choice : Generators → Table → ℕ → ℕ → Taken
+choice s t p c =
     or_else (lowest_idle s p) Idle
     (or_else (oldest Releasing s) Release
-    (or_else (victim s t row c) Stolen
+    (or_else (victim s t p c) Stolen
     (Refused 11)))
 
 -- R5.11: the note is held and the newest; R5.10: a refused note-on leaves everything as it was
@@ -51,9 +50,9 @@ abbrev pub allocated : Generators → Generators → ℕ → ℕ → Taken → A
 allocated s r c k (Took g w) = record { taken = Took g w; generators = assigned g c k r }
 allocated s r c k (Refused n) = record { taken = Refused n; generators = s }
 
--- R5.1, R8.10: step 1, a masked channel, R2.13: by the row; then steps 2 to 5
-unfoldable pub note_on : Generators → Table → List ℕ → ℕ → Bool → ℕ → ℕ → Allocated
-note_on s t row p rhythm c k =
-    if is_masked (share_in row c)
+-- R5.1, R8.10: step 1, a masked channel; then steps 2 to 5
+unfoldable pub note_on : Generators → Table → ℕ → Bool → ℕ → ℕ → Allocated
+note_on s t p rhythm c k =
+    if is_masked (share_of t p c)
     then record { taken = Refused 10; generators = s }
-    else allocated s (cleared rhythm c k s) c k (choice (cleared rhythm c k s) t row p c)
+    else allocated s (cleared rhythm c k s) c k (choice (cleared rhythm c k s) t p c)

@@ -1,5 +1,5 @@
 // Which generator a note gets (R5.1 to R5.11): steps 1 to 5 and the assignment, by value, for every value of the
-// generators, of the table and of the row of shares. Assumes nothing.
+// generators and of the table. Assumes nothing.
 ghost use Rattle.std.specs.Prelude.{◌≡◌};
 ghost use Rattle.allocation.specs.Allocation.{cleared, choice, note_on};
 
@@ -47,8 +47,8 @@ fn clear(generators: Generators, rhythm: bool, channel: u8, key: u8) -> Generato
 }
 
 // Steps 4 and 5: idle before releasing before stolen.
-fn choose(generators: Generators, table: Table, row: [u8; 16], polyphony: u8, channel: u8) -> Taken
-    ensures { result ≡ choice generators table row polyphony channel }
+fn choose(generators: Generators, table: Table, polyphony: u8, channel: u8) -> Taken
+    ensures { result ≡ choice generators table polyphony channel }
 {
     if let Found::At(g) = candidates::lowest_idle(generators, polyphony) {
         return Taken::Took(g, Was::Idle);
@@ -56,7 +56,7 @@ fn choose(generators: Generators, table: Table, row: [u8; 16], polyphony: u8, ch
     if let Found::At(g) = candidates::oldest(generators, Want::Releasing) {
         return Taken::Took(g, Was::Release);
     }
-    if let Found::At(g) = stealing::victim(generators, table, row, channel) {
+    if let Found::At(g) = stealing::victim(generators, table, polyphony, channel) {
         return Taken::Took(g, Was::Stolen);
     }
     Taken::Refused(11)
@@ -66,22 +66,21 @@ fn choose(generators: Generators, table: Table, row: [u8; 16], polyphony: u8, ch
 pub fn note_on(
     generators: Generators,
     table: Table,
-    row: [u8; 16],
     polyphony: u8,
     rhythm: bool,
     channel: u8,
     key: u8,
 ) -> Allocated
-    ensures { result ≡ note_on generators table row polyphony rhythm channel key }
+    ensures { result ≡ note_on generators table polyphony rhythm channel key }
 {
-    if shares::masked_in(row, channel) {
+    if shares::masks(table, polyphony, channel) {
         return Allocated {
             taken: Taken::Refused(10),
             generators: generators,
         };
     }
     let rest = clear(generators, rhythm, channel, key);
-    let taken = choose(rest, table, row, polyphony, channel);
+    let taken = choose(rest, table, polyphony, channel);
     let Taken::Took(g, _) = taken else {
         return Allocated {
             taken: taken,

@@ -24,8 +24,7 @@ use Rattle.message.specs.Message.{decode}
 use Rattle.table.specs.declared.Entry.{Entry}
 use Rattle.table.specs.declared.Table.{Table}
 use Rattle.table.specs.Table.{listed}
-use Rattle.shares.specs.Shares.{is_masked}
-use Rattle.shares.specs.Row.{share_in}
+use Rattle.shares.specs.Shares.{is_masked, share_of}
 use Rattle.sysex.specs.declared.Kind.{Kind}
 use Rattle.sysex.specs.declared.Kind.TheVariants.{Mip, SystemOn, Other}
 use Rattle.sysex.specs.SysEx.{kind_of}
@@ -138,14 +137,13 @@ few_else : (f : Found) (w : Was) (t : Taken) (c k : ℕ)
 few_else (found.At g) w t c k h = tt
 few_else found.Nothing w t c k h = h
 
-few_choice : (s : Generators) (t : Table) (row : List ℕ) (p c d k : ℕ)
-    → Few (number_of (reply_of (choice s t row p c) d k))
+few_choice : (s : Generators) (t : Table) (p c d k : ℕ) → Few (number_of (reply_of (choice s t p c) d k))
 unfolding choice
-few_choice s t row p c d k =
-    let theft : Taken = or_else (victim s t row c) Stolen (took.Refused 11) in
+few_choice s t p c d k =
+    let theft : Taken = or_else (victim s t p c) Stolen (took.Refused 11) in
     few_else (lowest_idle s p) Idle (or_else (oldest Releasing s) Release theft) d k
     (few_else (oldest Releasing s) Release theft d k
-    (few_else (victim s t row c) Stolen (took.Refused 11) d k (omega arith)))
+    (few_else (victim s t p c) Stolen (took.Refused 11) d k (omega arith)))
 
 few_allocated : (s r : Generators) (c k : ℕ) (t : Taken) → Few (number_of (reply_of t c k))
     → Few (number_of (reply_of (allocated s r c k t).taken c k))
@@ -155,14 +153,14 @@ few_allocated s r c k (took.Refused n) h = h
 few_played : (i : Instrument) (m : Message) → Few (number_of (played i m).answer)
 unfolding played play_note_on note_on
 few_played i (message.NoteOn c k) =
-    go (cleared (instrument.is_rhythm i c) c k i.generators) (is_masked (share_in i.shares c))
+    go (cleared (instrument.is_rhythm i c) c k i.generators) (is_masked (share_of i.table i.polyphony c))
   where
     go : (s : Generators) (b : Bool)
         → Few (number_of (reply_of (if b then record { taken = took.Refused 10; generators = i.generators }
-        else allocated i.generators s c k (choice s i.table i.shares i.polyphony c)).taken c k))
+        else allocated i.generators s c k (choice s i.table i.polyphony c)).taken c k))
     go s true = omega arith
     go s false = few_allocated i.generators s c k
-        (choice s i.table i.shares i.polyphony c) (few_choice s i.table i.shares i.polyphony c c k)
+        (choice s i.table i.polyphony c) (few_choice s i.table i.polyphony c c k)
 few_played i (message.NoteOff c k) = tt
 few_played i (message.Control c n v) = tt
 few_played i (message.Program c n) = tt

@@ -52,7 +52,7 @@ no h = impossible (cc)
 played-answers : (i : Instrument) (m : Message) → is_quiet (played i m).answer ≡ true → (played i m).instrument ≡ i
 unfolding played play_note_on
 played-answers i (message.NoteOn c k) h =
-    go (note_on i.generators i.table i.shares i.polyphony (instrument.is_rhythm i c) c k).taken h
+    go (note_on i.generators i.table i.polyphony (instrument.is_rhythm i c) c k).taken h
   where
     go : {A : Type 0} (t : Taken) → is_quiet (reply_of t c k) ≡ true → A
     go (took.Took g w) h = no h

@@ -17,10 +17,9 @@ use Rattle.playing.specs.declared.Answer.TheVariants as answer
 use Rattle.playing.specs.declared.Reply.{Reply}
 use Rattle.playing.specs.Playing.{replied}
 
--- R2.7, R2.8: the new table, and what it does to the notes of newly masked channels, R2.13: by the row before and the
--- one that is set; R2.9: all else stays
+-- R2.7, R2.8: the new table, and what it does to the notes of newly masked channels; R2.9: all else stays
 unfoldable pub new_table : Instrument → Table → Instrument
-new_table i t = with_generators (with_table i t) (masked i.shares (with_table i t).shares i.generators)
+new_table i t = with_table (with_generators i (masked i.polyphony i.table t i.generators)) t
 
 -- a number as an answer, and none where there is none
 abbrev pub answer_of : Option ℕ → Answer

@@ -15,11 +15,13 @@ use table::Table;
 fn new_table(i: Instrument, t: Table) -> Instrument
     ensures { result ≡ new_table i t }
 {
-    let old = i.shares;
+    let old = i.table;
     let s = i.generators;
-    let next = i.with_table(t);
-    let new = next.shares;
-    next.with_generators(masking::mask(s, old, new))
+    let after = masking::mask(s, i.polyphony, old, t);
+    let mut next = i;
+    next.table = t;
+    next.generators = after;
+    next
 }
 
 fn mip(i: Instrument, p: Parser) -> Reply

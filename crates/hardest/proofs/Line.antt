@@ -24,9 +24,7 @@ use Rattle.table.specs.Table.{entry, start_order, start_table, listed}
 use Rattle.table.proofs.Start.{start_entries, start_well_formed}
 use Rattle.shares.specs.Shares.{shares_from, lookup, is_masked}
 use Rattle.shares.specs.Shares as of-table
-use Rattle.shares.specs.Row.{shares_row, share_in}
 use Rattle.shares.proofs.Shares.{sum_from, shares-distinct, masked_unlisted}
-use Rattle.shares.proofs.Rows.{row-share, row_back}
 use Rattle.ages.specs.Ages.{oldest_first, ages_of, other_than}
 use Rattle.generators.specs.declared.Generators.{Generators}
 use Rattle.generators.specs.Generators.{Generator, generator, at, is_idle, is_sounding, assigned, silent}
@@ -231,13 +229,9 @@ module _ (p j : ℕ) (lo : 1 ≤ p) (s : Generators) (o : Lined p j s) where
   unfolding listed
   listed-one = same-listed p 1 0 start_order
 
-  below_255 : p < 255
-  below_255 = let f = o.playable.few in omega arith
-
-  unmasked : is_masked (share_in (shares_row p (start_table p)) 1) ≡ false
+  unmasked : is_masked (of-table.share_of (start_table p) p 1) ≡ false
   unfolding of-table.share_of
-  unmasked = ap is_masked (row-share p (start_table p) below_255 (start_well_formed p) 1)
-      ∙ ap (λ (l : List Entry). is_masked (lookup 1 (shares_from p 0 l))) (start_entries p)
+  unmasked = ap (λ (l : List Entry). is_masked (lookup 1 (shares_from p 0 l))) (start_entries p)
       ∙ masked_unlisted 1 quota ∙ ap not listed-one
 
   all_listed : (g : ℕ) → IsListed quota (slots g)
@@ -247,14 +241,14 @@ module _ (p j : ℕ) (lo : 1 ≤ p) (s : Generators) (o : Lined p j s) where
       go (song k a b e h) = subst (IsListed quota) (sym (ap slot_of h)) listed-one
       go (idle e) = subst (IsListed quota) (sym (idle_empty (at s g) e)) tt
 
-  chosen-one : Chosen p slots s quota 1 (choice s (start_table p) (shares_row p (start_table p)) p 1)
+  chosen-one : Chosen p slots s quota 1 (choice s (start_table p) p 1)
   chosen-one =
       let w = subst WellFormed (start_entries p) (start_well_formed p) in
       let h = sum_from p 0 (map (λ (c : ℕ). entry c p) start_order) w.rising (omega arith) in
       chosen p slots s o.playable (λ g. refl) quota 1
       (shares-distinct p 0 (map (λ (c : ℕ). entry c p) start_order) w.distinct)
-      (omega arith) listed-one all_listed (start_table p) (shares_row p (start_table p))
-      (row_back p (start_table p) below_255 (start_well_formed p) ∙ ap (shares_from p 0) (start_entries p))
+      (omega arith) listed-one all_listed (start_table p)
+      (ap (shares_from p 0) (start_entries p))
 
   -- a theft if and only if all P generators have a note of the song
   pub record Plays (a : Allocated) : Type 0 where
@@ -360,6 +354,6 @@ module _ (p j : ℕ) (lo : 1 ≤ p) (s : Generators) (o : Lined p j s) where
       absurd (let n = total-full (λ (g : ℕ). is_of 1 (slots g)) p (λ g l. own g (f g l)) in omega arith)
 
   -- The law: the next note of the song.
-  pub plays : Plays (note_on s (start_table p) (shares_row p (start_table p)) p false 1 key)
+  pub plays : Plays (note_on s (start_table p) p false 1 key)
   unfolding note_on
-  plays = rw (unmasked, cleared-same) (take (choice s (start_table p) (shares_row p (start_table p)) p 1) chosen-one)
+  plays = rw (unmasked, cleared-same) (take (choice s (start_table p) p 1) chosen-one)

@@ -19,8 +19,6 @@ use Rattle.table.specs.declared.Table.{Table}
 use Rattle.table.specs.Table.{start_table}
 use Rattle.instrument.specs.declared.Instrument.{Instrument}
 use Rattle.instrument.specs.Instrument.{fresh, with_generators, is_rhythm}
-use Rattle.shares.specs.Row.{shares_row}
-use Rattle.allocation.specs.declared.Allocated.{Allocated}
 use Rattle.allocation.specs.Allocation.{note_on}
 use Rattle.playing.specs.declared.Answer.TheVariants as answer
 use Rattle.playing.specs.Playing.{replied, played, note_reply, play_note_on}
@@ -103,7 +101,6 @@ module _ (p id : ℕ) (lo : 1 ≤ p) (hi : p ≤ 64) where
     is : after_bytes fresh-one l ≡ record { parser = on; instrument = instrument }
     polyphony : instrument.polyphony ≡ p
     table : instrument.table ≡ start_table p
-    row : instrument.shares ≡ shares_row p (start_table p)
     lined : Lined p j instrument.generators
     counted : thefts fresh-one l ≡ j - p
 
@@ -115,7 +112,6 @@ module _ (p id : ℕ) (lo : 1 ≤ p) (hi : p ≤ 64) where
         is = ap (λ (r : Output). r.device) (first_byte p id);
         polyphony = refl;
         table = refl;
-        row = refl;
         lined = lined_silent p hi;
         counted = ap (λ (r : Output). bit (is_theft r.answer) + 0) (first_byte p id) ∙ omega arith;
       }
@@ -144,28 +140,21 @@ module _ (p id : ℕ) (lo : 1 ≤ p) (hi : p ≤ 64) where
         let c = o.counted in
         omega arith
 
-    -- what the next note gets
-    abbrev got : Allocated
-    got = note_on i.generators (start_table p) (shares_row p (start_table p)) p false 1 key
-
-    law : Plays p j lo i.generators o.lined got
+    law : Plays p j lo i.generators o.lined (note_on i.generators (start_table p) p false 1 key)
     law = plays p j lo i.generators o.lined
 
     taken-note : byte_taken (after_bytes fresh-one with-key) 64
-        ≡ output_of on (note_reply i 1 key got)
+        ≡ output_of on (note_reply i 1 key (note_on i.generators (start_table p) p false 1 key))
     unfolding played play_note_on is_rhythm
     taken-note =
         ap (λ (d : Device). byte_taken d 64) after-key
         ∙ velocity_byte i key
-        ∙ ap (λ (r : List ℕ). played-by i.table r i.polyphony) o.row
-        ∙ ap₂ (λ (t : Table) (n : ℕ). played-by t (shares_row p (start_table p)) n) o.table o.polyphony
-      where
-        played-by : Table → List ℕ → ℕ → Output
-        played-by t r n = output_of on (note_reply i 1 key (note_on i.generators t r n false 1 key))
+        ∙ ap₂ (λ (t : Table) (n : ℕ). output_of on (note_reply i 1 key (note_on i.generators t n false 1 key)))
+        o.table o.polyphony
 
     after-note : After (suc j) (with-key ++ (64 ∷ []))
     after-note =
-        let a = got in
+        let a = note_on i.generators (start_table p) p false 1 key in
         let h = thefts_snoc fresh-one with-key 64 in
         let b : bit (is_theft (byte_taken (after_bytes fresh-one with-key) 64).answer) ≡ bit (leb p j) =
         ap (λ (r : Output). bit (is_theft r.answer)) taken-note ∙ ap bit law.stolen in
@@ -176,7 +165,6 @@ module _ (p id : ℕ) (lo : 1 ≤ p) (hi : p ≤ 64) where
           is = after_snoc fresh-one with-key 64 ∙ ap (λ (r : Output). r.device) taken-note;
           polyphony = o.polyphony;
           table = o.table;
-          row = o.row;
           lined = subst (λ (m : ℕ). Lined p m a.generators) (omega arith) law.lined;
           counted = omega arith;
         }

@@ -9,4 +9,4 @@ use Rattle.instrument.specs.declared.Instrument.{Instrument}
 use Rattle.instrument.specs.contracts.Instrument as T
 
 pub channels_16 : (i : Instrument) {vs : List Val} → Is T.the_row i vs → length i.channels ≡ 16
-channels_16 i g = simp length-map at g.1.1.1.1.1.1.0.1.0.1
+channels_16 i g = simp length-map at g.1.1.1.1.1.0.1.0.1

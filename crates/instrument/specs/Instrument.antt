@@ -3,7 +3,6 @@ use Rattle.std.specs.Prelude.{ℕ, ◌-◌, Bool, ◌&&◌, ◌||◌, List, eqb,
 use Rattle.loops.specs.Cases.{bit}
 use Rattle.table.specs.declared.Table.{Table}
 use Rattle.table.specs.Table.{start_table}
-use Rattle.shares.specs.Row.{no_share, shares_row}
 use Rattle.channels.specs.declared.Channel.{Channel}
 use Rattle.channels.specs.Channel as of-channel
 use Rattle.generators.specs.declared.Generators.{Generators}
@@ -21,34 +20,28 @@ channel_at l i = get_or l i of-channel.fresh
 unfoldable pub replaced : List Channel → ℕ → Channel → List Channel
 replaced l i c = set l i c
 
--- R2.11: a table is set with its row of shares, here and nowhere else; R1.2: P and the own ID stay in every record
--- below
+-- R1.10: a fresh record; R1.14: channel 11 is melody, kind 0; R1.2: P and the own ID stay in every record below
+unfoldable pub fresh : ℕ → ℕ → Instrument
+fresh p id =
+    record {
+      polyphony = p;
+      id = id;
+      table = start_table p;
+      channels = fresh_channels;
+      kind = 0;
+      generators = silent;
+    }
+
 abbrev pub with_table : Instrument → Table → Instrument
 with_table i t =
     record {
       polyphony = i.polyphony;
       id = i.id;
       table = t;
-      shares = shares_row i.polyphony t;
       channels = i.channels;
       kind = i.kind;
       generators = i.generators;
     }
-
--- R1.10: a fresh record; R1.14: channel 11 is melody, kind 0; R2.11: its table is set as any other
-unfoldable pub fresh : ℕ → ℕ → Instrument
-fresh p id =
-    with_table
-    record {
-      polyphony = p;
-      id = id;
-      table = start_table p;
-      shares = replicate 16 no_share;
-      channels = fresh_channels;
-      kind = 0;
-      generators = silent;
-    }
-    (start_table p)
 
 abbrev pub with_channels : Instrument → List Channel → Instrument
 with_channels i l =
@@ -56,7 +49,6 @@ with_channels i l =
       polyphony = i.polyphony;
       id = i.id;
       table = i.table;
-      shares = i.shares;
       channels = l;
       kind = i.kind;
       generators = i.generators;
@@ -69,7 +61,6 @@ with_kind i rhythm =
       polyphony = i.polyphony;
       id = i.id;
       table = i.table;
-      shares = i.shares;
       channels = i.channels;
       kind = bit rhythm;
       generators = i.generators;
@@ -81,7 +72,6 @@ with_generators i s =
       polyphony = i.polyphony;
       id = i.id;
       table = i.table;
-      shares = i.shares;
       channels = i.channels;
       kind = i.kind;
       generators = s;

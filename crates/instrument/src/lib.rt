@@ -2,7 +2,7 @@
 // value, for every value. Assumes nothing.
 ghost use Rattle.std.specs.Prelude.{◌≡◌};
 ghost use Rattle.instrument.specs.Instrument.{fresh_channels, fresh, replaced, channel_of, with_channel};
-ghost use Rattle.instrument.specs.Instrument.{with_table, with_kind, with_generators, pedal_down, is_rhythm};
+ghost use Rattle.instrument.specs.Instrument.{with_kind, with_generators, pedal_down, is_rhythm};
 
 use channels::Channel;
 use generators::Generators;
@@ -15,8 +15,6 @@ pub struct Instrument {
     pub polyphony: u8,
     pub id: u8,
     pub table: Table,
-    // The share of each channel by the table, 255 for a masked one; by the channel minus 1.
-    pub shares: [u8; 16],
     // By what the wire carries, the channel minus 1.
     pub channels: [Channel; 16],
     // Of channel 11: RHYTHM or MELODY.
@@ -59,27 +57,14 @@ impl Instrument {
         let table = Table::start(polyphony);
         let channels = fresh_channels();
         let generators = Generators::silent();
-        let i = Instrument {
+        Instrument {
             polyphony: polyphony,
             id: id,
             table: table,
-            shares: [shares::NO_SHARE; 16],
             channels: channels,
             kind: Instrument::MELODY,
             generators: generators,
-        };
-        i.with_table(table)
-    }
-
-    // With this table and its row of shares. Nothing else sets a table.
-    pub fn with_table(self, table: Table) -> Self
-        ensures { result ≡ with_table self table }
-    {
-        let row = shares::row(table, self.polyphony);
-        let mut next = self;
-        next.table = table;
-        next.shares = row;
-        next
+        }
     }
 
     // The record of a channel; a fresh one where there is no such channel.

@@ -72,7 +72,7 @@ made_note p i g isp isi isg =
     let o = LL.owed I.the_type I'.the_laws i (ins_val i ∷ []) isi in
     made p (with_generators i g) isp
     (LL.owes I.the_type I'.the_laws (with_generators i g)
-    (o.0, (o.1.0, (o.1.1.0, (o.1.1.1.0, (o.1.1.1.1.0, (o.1.1.1.1.1.0, (isg, tt))))))))
+    (o.0, (o.1.0, (o.1.1.0, (o.1.1.1.0, (o.1.1.1.1.0, (isg, tt)))))))
 
 -- ---- a call: of what its contract ensures the clause alone, without what is said of the parameters at exit
 

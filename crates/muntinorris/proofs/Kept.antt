@@ -135,8 +135,8 @@ module _ {K : Type 0} {M : Type 1} {𝓤 : Ura M} {𝓛 : Logic 𝓤}
       owned t R.the_row (Is R.the_row) (LL.makes R.the_type R'.the_plain 𝓛) r (run_val r ∷ [])
       (LL.owes R.the_type R'.the_laws r whole_is) $ move t (1 ∷ 0 ∷ []) $ closes t tt R.the_row r (run_val r ∷ []) b o $
       assigns t
-      (of_opd t (load t (from t (fld t {τ = S'.mir} {d = 0} refl (fld t {τ = ty_int w8} {d = 600} refl (stop t))))
-      (look_in t 3 (sub t 4 {τ = ty_int w8} {d = 600} refl (sub t 0 {τ = S'.mir} {d = 0} refl (whole t))))))
+      (of_opd t (load t (from t (fld t {τ = S'.mir} {d = 0} refl (fld t {τ = ty_int w8} {d = 584} refl (stop t))))
+      (look_in t 3 (sub t 4 {τ = ty_int w8} {d = 584} refl (sub t 0 {τ = S'.mir} {d = 0} refl (whole t))))))
       (from t (stop t))
       (init t 5 refl ((uint_Lawful 𝓛 w8).typed r.song.number _ song-is.1.1.1.1.0).0) $ s))
 

@@ -23,7 +23,6 @@ use Rattle.age_law.proofs.Assigned.{follows_changed, follows_silenced, follows_s
 use Rattle.instrument.specs.declared.Instrument.{Instrument}
 use Rattle.instrument.specs.Instrument.{fresh, with_channel, with_kind, with_generators}
 use Rattle.instrument.specs.Instrument as of-instrument
-use Rattle.shares.specs.Row.{shares_row}
 use Rattle.masking.specs.Masking.{masked}
 use Rattle.playing.specs.declared.Answer.{Answer}
 use Rattle.playing.specs.declared.Answer.TheVariants.{Done, Number}
@@ -87,8 +86,7 @@ module _ (i : Instrument) (o : Ordered i.generators) (l : List ℕ) (f : Follows
   follows-table : (t : Table) → Follows (new_table i t).generators l
   unfolding new_table masked
   follows-table t = follows_restated i.generators o
-      (gives_way i.shares (shares_row i.polyphony t)) 3
-      (way_busy i.shares (shares_row i.polyphony t)) refl l f
+      (gives_way i.polyphony i.table t) 3 (way_busy i.polyphony i.table t) refl l f
 
   follows-report : (g : ℕ) → Follows (reported i g).instrument.generators (named l (reported i g).answer)
   unfolding reported

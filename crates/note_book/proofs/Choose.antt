@@ -18,11 +18,10 @@ use Rattle.loops.proofs.Tests.{and_left, and_right}
 use Rattle.table.specs.declared.Entry.{Entry}
 use Rattle.table.specs.declared.Table.{Table}
 use Rattle.table.specs.Laws.{Distinct}
-use Rattle.table.specs.Table.{entries_of, listed}
+use Rattle.table.specs.Table.{listed}
 use Rattle.shares.specs.declared.Share.{Share}
 use Rattle.shares.specs.declared.Share.TheVariants.{Masked, Units}
-use Rattle.shares.specs.Shares.{sum, lookup}
-use Rattle.shares.specs.Row.{shares_in}
+use Rattle.shares.specs.Shares.{shares, sum, lookup}
 use Rattle.ages.specs.Ages.{oldest_first}
 use Rattle.generators.specs.declared.Generators.{Generators}
 use Rattle.generators.specs.Generators.{Generator, at, is_idle, is_held, is_sustained, is_releasing, is_on, is_busy_on}
@@ -339,14 +338,13 @@ module _ (p : ℕ) (n : ℕ → Slot) (s : Generators) (o : Playable p s) (e : S
     rob f none r = absurd (pigeons p n q c f h l t r)
     rob f (some d) r = take-first f d r (over_some (with_new p n c) q d u r)
 
-    pub chosen : (m : Table) (row : List ℕ) → shares_in row (entries_of m) ≡ q → Chosen p n s q c (choice s m row p c)
+    pub chosen : (m : Table) → shares p m ≡ q → Chosen p n s q c (choice s m p c)
     unfolding choice lowest_idle oldest wanted victim steal_from
-    chosen m row r = rw (at_most_p p o.few)
+    chosen m r = rw (at_most_p p o.few)
         (go (first_of (λ g. is_idle (at s g)) (numbers p)) (first_law (λ g. is_idle (at s g)) (numbers p)))
       where
         steal : Full p n
-            → Chosen p n s q c
-            (or_else (loses s (to_loser (over_share (counted s c) (shares_in row (entries_of m))))) Stolen (Refused 11))
+            → Chosen p n s q c (or_else (loses s (to_loser (over_share (counted s c) (shares p m)))) Stolen (Refused 11))
         steal f =
             rw (r, over_same (counted s c) (with_new p n c) q (λ d. ap (λ (k : ℕ). k + bit (eqb d c)) (count-notes d)))
             (rob f (over_share (with_new p n c) q) refl)
@@ -359,14 +357,13 @@ module _ (p : ℕ) (n : ℕ → Slot) (s : Generators) (o : Playable p s) (e : S
 
         next : ((g : ℕ) → 1 ≤ occurs g (numbers p) → is_idle (at s g) ≡ false)
             → (x : Option ℕ) → Picked (λ g. is_releasing (at s g)) (oldest_first s.ages) x
-            → Chosen p n s q c (or_else (found x) Release (or_else (victim s m row c) Stolen (Refused 11)))
+            → Chosen p n s q c (or_else (found x) Release (or_else (victim s m p c) Stolen (Refused 11)))
         next a x (some_one g b k) =
             free g Release refl (below g (releasing_sounds (at s g) b)) (e g ∙ releasing_slot (at s g) b)
         next a x (no_one b) = steal (full a b)
 
         go : (x : Option ℕ) → Picked (λ g. is_idle (at s g)) (numbers p) x → Chosen p n s q c
-            (or_else (found x) Idle
-            (or_else (oldest Releasing s) Release (or_else (victim s m row c) Stolen (Refused 11))))
+            (or_else (found x) Idle (or_else (oldest Releasing s) Release (or_else (victim s m p c) Stolen (Refused 11))))
         go x (some_one g b k) = free g Idle refl (numbers_in p g k) (e g ∙ idle_slot (at s g) b)
         go x (no_one a) = next a (first_of (λ g. is_releasing (at s g)) (oldest_first s.ages))
             (first_law (λ g. is_releasing (at s g)) (oldest_first s.ages))

@@ -1,4 +1,4 @@
--- The five theorems about every list: for every P and own ID, refused starts too, and every list of bytes and reports
+-- The four theorems about every list: for every P and own ID, refused starts too, and every list of bytes and reports
 -- from that start.
 --
 -- `demand_3`: after every event the busy generators are exactly the notes of the book (`exact`); a note is stolen, or
@@ -9,11 +9,10 @@
 -- is stolen (`foretold`); and a key that is down is stolen only where its channel has no note on the pedal
 -- (`pedal_first`).
 -- `rhythm_is_by-book`: the rhythm channels of the record are those of the book.
--- `shares_are_by-book`: the row of shares in the record is that of its table and P, and that of the book's.
 --
--- What these words mean stands in specs/Book.antt, specs/Claim.antt, specs/Age.antt, specs/WhoLoses.antt,
--- specs/Rhythm.antt and specs/Shares.antt. The theorems hold of every lawful system (`Run`, `Age`, `WhoLoses`, and the
--- invariant itself), and bytes and reports are one (`Bytes`).
+-- What these words mean stands in specs/Book.antt, specs/Claim.antt, specs/Age.antt, specs/WhoLoses.antt and
+-- specs/Rhythm.antt. The theorems hold of every lawful system (`Run`, `Age`, `WhoLoses`, and the invariant itself), and
+-- bytes and reports are one (`Bytes`).
 -- Assumes nothing.
 use Prim.Native.Nat.{ℕ}
 use mathlib.Core.List.{List}
@@ -22,8 +21,7 @@ use Rattle.note_book.specs.Claim.{Demand3, Live, begin}
 use Rattle.note_book.specs.Age.{AgeByAnswers}
 use Rattle.note_book.specs.WhoLoses.{WhoLoses}
 use Rattle.note_book.specs.Rhythm.{SameRhythm}
-use Rattle.note_book.specs.Shares.{SameShares}
-use Rattle.note_book.proofs.Matches.{same-rhythm, right-row}
+use Rattle.note_book.proofs.Matches.{same-rhythm}
 use Rattle.note_book.proofs.Run.{fine_after, lawful_demand_3}
 use Rattle.note_book.proofs.Age.{age_by_answers}
 use Rattle.note_book.proofs.WhoLoses.{lawful_who_loses}
@@ -40,6 +38,3 @@ who_loses p id l = lawful_who_loses Live lawful (begin p id) (fine_begin p id) (
 
 pub rhythm_is_by-book : (p id : ℕ) (l : List Event) → SameRhythm Live (begin p id) l
 rhythm_is_by-book p id l c = same-rhythm _ _ (fine_after Live lawful (begin p id) (fine_begin p id) l).matches c
-
-pub shares_are_by-book : (p id : ℕ) (l : List Event) → SameShares Live (begin p id) l
-shares_are_by-book p id l = right-row _ _ (fine_after Live lawful (begin p id) (fine_begin p id) l).matches

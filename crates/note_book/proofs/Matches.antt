@@ -1,28 +1,25 @@
--- The invariant of demand 3: the book is what can be seen of the sound module, its table is well formed, the row of
--- shares is the table's, and no note stands on a masked channel. Here: what a change of the generators alone asks for,
--- and the law of note-on, with what it can answer said of the book only. All that follows goes by cases on that.
+-- The invariant of demand 3: the book is what can be seen of the sound module, its table is well formed, and no note
+-- stands on a masked channel. Here: what a change of the generators alone asks for, and the law of note-on, with what
+-- it can answer said of the book only. All that follows goes by cases on that.
 -- Assumes nothing.
 use mathlib.Core.Path.{◌≡◌, refl, sym, ap, ap₂, ◌∙◌, subst}
 use mathlib.Core.Bool.{Bool, true, false, ◌&&◌, ◌||◌, false≢true}
 use mathlib.Core.List.{List, [], ◌∷◌, ◌++◌}
 use mathlib.Core.Option.{Option, some, none}
-use Prim.Native.Nat.{ℕ, ◌+◌, ◌≤◌, ◌<◌}
+use Prim.Native.Nat.{ℕ, ◌≤◌, ◌<◌}
 use native.Mathlib.Omega.{arith}
 use borrow.Author.Tests.{not-false, ltb-true, ltb-false}
 use lib.Dec.{eqb, ltb}
 use lib.ListN.{length}
 use Rattle.loops.specs.Cases.{if◌then◌else◌}
 use Rattle.loops.specs.Passes.{filter_by}
-use Rattle.loops.proofs.Fill.{up_to-same}
 use Rattle.loops.proofs.Tests.{and_left, and_right}
 use Rattle.table.specs.declared.Entry.{Entry}
 use Rattle.table.specs.Laws.{WellFormed}
 use Rattle.table.specs.Table.{entries_of, listed}
 use Rattle.shares.specs.Shares.{shares_from, lookup, is_masked}
 use Rattle.shares.specs.Shares as of-table
-use Rattle.shares.specs.Row.{share_byte, shares_row, share_in, shares_in}
 use Rattle.shares.proofs.Shares.{sum_from, shares-distinct, masked_unlisted}
-use Rattle.shares.proofs.Rows.{row-share, row_back}
 use Rattle.stealing.specs.Stealing.{over_share}
 use Rattle.ages.specs.Ages.{oldest_first, other_than}
 use Rattle.generators.specs.declared.Generators.{Generators}
@@ -49,7 +46,6 @@ use Rattle.note_book.specs.Book.{is_note, is_down, is_on_pedal, is_of, is_ended,
 use Rattle.note_book.specs.Claim.{IsFull}
 use Rattle.note_book.specs.Age.{named}
 use Rattle.note_book.specs.WhoLoses.{with_new, first_to_go, goes, loss_answer, Foretold, PedalFirst}
-use Rattle.note_book.specs.Shares.{RightRow}
 use Rattle.note_book.proofs.Playable.{Playable, playable_cleared, playable_assigned}
 use Rattle.note_book.proofs.Sees.{Sees, sees_cleared, sees_assigned}
 use Rattle.note_book.proofs.Pigeons.{IsOver, IsListed}
@@ -64,7 +60,6 @@ pub record Matches (i : Instrument) (b : Book) : Type 0 where
   pub polyphony : i.polyphony ≡ b.polyphony
   pub id : i.id ≡ b.id
   pub table : entries_of i.table ≡ b.table
-  pub row : i.shares ≡ shares_row i.polyphony i.table
   pub sixteen : length i.channels ≡ 16
   pub holds : (c : ℕ) → 1 ≤ c → (channel_of i c).hold ≡ b.holds c
   pub bank : (channel_of i 11).bank_msb ≡ b.bank
@@ -84,7 +79,6 @@ matches_notes i b m s n p e u =
       polyphony = m.polyphony;
       id = m.id;
       table = m.table;
-      row = m.row;
       sixteen = m.sixteen;
       holds = m.holds;
       bank = m.bank;
@@ -155,38 +149,10 @@ follows_cleared true c k s o l f =
     (changed_ordered (ReleaseNote c k) s o) l (follows_changed (ReleaseNote c k) s o l f)
 follows_cleared false c k s o l f = follows_changed (ReleaseNote c k) s o l f
 
--- the same shares for both: by the table, and as they stand in the row
-pub table-share : (i : Instrument) (b : Book) → Matches i b → (c : ℕ)
+pub same-share : (i : Instrument) (b : Book) → Matches i b → (c : ℕ)
     → of-table.share_of i.table i.polyphony c ≡ share_of b c
 unfolding of-table.share_of
-table-share i b m c = ap₂ (λ (p : ℕ) (l : List Entry). lookup c (shares_from p 0 l)) m.polyphony m.table
-
-pub below_255 : (i : Instrument) (b : Book) → Matches i b → i.polyphony < 255
-below_255 i b m = let e = m.polyphony in let f = m.playable.few in omega arith
-
-table_formed : (i : Instrument) (b : Book) → Matches i b → WellFormed (entries_of i.table)
-table_formed i b m = subst WellFormed (sym m.table) m.well_formed
-
-pub same-share : (i : Instrument) (b : Book) → Matches i b → (c : ℕ) → share_in i.shares c ≡ share_of b c
-same-share i b m c =
-    ap (λ (r : List ℕ). share_in r c) m.row
-    ∙ row-share i.polyphony i.table (below_255 i b m) (table_formed i b m) c
-    ∙ table-share i b m c
-
-same_quota : (i : Instrument) (b : Book) → Matches i b → shares_in i.shares (entries_of i.table) ≡ quota b
-same_quota i b m =
-    ap (λ (r : List ℕ). shares_in r (entries_of i.table)) m.row
-    ∙ row_back i.polyphony i.table (below_255 i b m) (table_formed i b m)
-    ∙ ap₂ (λ (p : ℕ) (l : List Entry). shares_from p 0 l) m.polyphony m.table
-
--- the whole row, for both
-pub right-row : (i : Instrument) (b : Book) → Matches i b → RightRow i b
-unfolding shares_row
-right-row i b m =
-    record {
-      by_table = m.row;
-      by_book = m.row ∙ up_to-same _ _ 16 (λ k h. ap share_byte (table-share i b m (k + 1)));
-    }
+same-share i b m c = ap₂ (λ (p : ℕ) (l : List Entry). lookup c (shares_from p 0 l)) m.polyphony m.table
 
 -- the same rhythm channels for both
 pub same-rhythm : (i : Instrument) (b : Book) → Matches i b → (c : ℕ) → of-instrument.is_rhythm i c ≡ is_rhythm b c
@@ -195,7 +161,7 @@ same-rhythm i b m c = ap (λ (r : Bool). eqb c 10 || eqb c 11 && r) m.kind
 
 pub note_law : (i : Instrument) (b : Book) → Matches i b → (c k : ℕ) → NoteLaw i b c k (play_note_on i c k)
 unfolding play_note_on note_on
-note_law i b m c k = rw (same-rhythm i b m c) (go (is_masked (share_in i.shares c)) refl)
+note_law i b m c k = rw (same-rhythm i b m c) (go (is_masked (of-table.share_of i.table i.polyphony c)) refl)
   where
     p : ℕ
     p = b.polyphony
@@ -221,12 +187,12 @@ note_law i b m c k = rw (same-rhythm i b m c) (go (is_masked (share_in i.shares 
     standing : (g : ℕ) → IsListed q (n g)
     standing g = freed-listed q (is_ended r c k) false (b.notes g) (m.unmasked g)
 
-    choose : listed c q ≡ true → Chosen p n s q c (choice s i.table i.shares i.polyphony c)
+    choose : listed c q ≡ true → Chosen p n s q c (choice s i.table i.polyphony c)
     choose l =
-        subst (λ (x : ℕ). Chosen p n s q c (choice s i.table i.shares x c)) (sym m.polyphony)
+        subst (λ (x : ℕ). Chosen p n s q c (choice s i.table x c)) (sym m.polyphony)
         (chosen p n s ready seen q c (shares-distinct p 0 b.table m.well_formed.distinct)
         (let h = sum_from p 0 b.table m.well_formed.rising (omega arith) in omega arith) l standing i.table
-        i.shares (same_quota i b m))
+        (ap (λ (l : List Entry). shares_from p 0 l) m.table))
 
     full : Full p n → IsFull b c k
     full f g h = stands (is_ended r c k) (b.notes g) refl (f g h)
@@ -308,9 +274,9 @@ note_law i b m c k = rw (same-rhythm i b m c) (go (is_masked (share_in i.shares 
           pedal_first = λ x y. absurd (false≢true y);
         }
 
-    go : (x : Bool) → is_masked (share_in i.shares c) ≡ x
+    go : (x : Bool) → is_masked (of-table.share_of i.table i.polyphony c) ≡ x
         → NoteLaw i b c k (note_reply i c k (if x then record { taken = Refused 10; generators = i.generators }
-        else allocated i.generators s c k (choice s i.table i.shares i.polyphony c)))
+        else allocated i.generators s c k (choice s i.table i.polyphony c)))
     go true e =
         let z : is_masked (share_of b c) ≡ true = ap is_masked (sym (same-share i b m c)) ∙ e in
         record {
@@ -323,4 +289,4 @@ note_law i b m c k = rw (same-rhythm i b m c) (go (is_masked (share_in i.shares 
     go false e =
         let u : is_masked (share_of b c) ≡ false = ap is_masked (sym (same-share i b m c)) ∙ e in
         let l = listed_unmasked c q u in
-        take u l (choice s i.table i.shares i.polyphony c) (choose l)
+        take u l (choice s i.table i.polyphony c) (choose l)

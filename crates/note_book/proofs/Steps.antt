@@ -2,11 +2,11 @@
 -- the book does.
 -- Assumes nothing.
 use mathlib.Core.Path.{◌≡◌, refl, sym, ap, ap₂, ◌∙◌, subst}
-use mathlib.Core.Bool.{Bool, true, false, not, ◌&&◌}
-use mathlib.Core.List.{List}
+use mathlib.Core.Bool.{Bool, true, false, not, ◌&&◌, ◌||◌, false≢true}
+use mathlib.Core.List.{List, [], ◌∷◌}
 use Prim.Native.Nat.{ℕ, ◌-◌, ◌≤◌}
 use native.Mathlib.Omega.{arith}
-use borrow.Author.Tests.{eqb-true, eqb-false, eq-eqb, ne_eqb, ltb-true, ltb-false}
+use borrow.Author.Tests.{eqb-true, eqb-false, eq-eqb, ne_eqb, le-leb, ltb-true, ltb-false}
 use lib.Dec.{eqb, leb, ltb}
 use lib.ListN.{get_or, set, replicate, length-set, get_or-replicate, get_or-eq_default}
 use lib.Seq.{get_or-set_same, get_or-set_other}
@@ -16,14 +16,12 @@ use Rattle.message.specs.declared.Message.{Message}
 use Rattle.message.specs.declared.Message.TheVariants.{NoteOn, NoteOff, Control, Program, Bend, Other}
 use Rattle.table.specs.declared.Entry.{Entry}
 use Rattle.table.specs.declared.Table.{Table}
-use Rattle.table.specs.Laws.{WellFormed}
+use Rattle.table.specs.Laws.{WellFormed, Channels}
 use Rattle.table.specs.Table.{entries_of, listed}
 use Rattle.table.proofs.Start.{start_entries, start_well_formed}
-use Rattle.shares.specs.Shares.{shares_from, lookup, is_masked}
+use Rattle.shares.specs.Shares.{shares_from, lookup, is_masked, is_channel}
 use Rattle.shares.specs.Shares as of-table
-use Rattle.shares.specs.Row.{shares_row, share_in}
-use Rattle.shares.proofs.Shares.{masked_unlisted}
-use Rattle.shares.proofs.Rows.{row-share}
+use Rattle.shares.proofs.Shares.{masked_unlisted, shares-channels}
 use Rattle.channels.specs.declared.Channel.{Channel}
 use Rattle.channels.specs.Channel.{with_program, with_bend, rhythm_by}
 use Rattle.channels.specs.Channel as of-channel
@@ -58,7 +56,7 @@ use Rattle.note_book.proofs.Sees.{slot_freed, means, pedals, sees_restated}
 use Rattle.note_book.proofs.Sees.{sees_changed, sees_channel, sees_one, sees_silent}
 use Rattle.note_book.proofs.Pigeons.{IsListed}
 use Rattle.note_book.proofs.Matches.{quota, Matches, matches_notes, freed-listed}
-use Rattle.note_book.proofs.Matches.{listed_unmasked, below_255, same-share, same-rhythm, note_law}
+use Rattle.note_book.proofs.Matches.{listed_unmasked, same-rhythm, note_law}
 
 -- ---- what frees notes and nothing else
 
@@ -107,7 +105,6 @@ matches_channel i b m c lo hi x h e others v own other =
       polyphony = m.polyphony;
       id = m.id;
       table = m.table;
-      row = m.row;
       sixteen = length-set i.channels (c - 1) x ∙ m.sixteen;
       holds = λ d l. hold d l (eqb d c) refl;
       bank = msb (eqb 11 c) refl;
@@ -242,7 +239,6 @@ matches_kind i b m r =
       polyphony = m.polyphony;
       id = m.id;
       table = m.table;
-      row = m.row;
       sixteen = m.sixteen;
       holds = m.holds;
       bank = m.bank;
@@ -315,35 +311,50 @@ step_message i b m Other h = m
 
 -- ---- a new table
 
--- a busy generator whose channel is newly masked
-abbrev pub gives_way : List ℕ → List ℕ → Generator → Bool
-gives_way old new x = is_busy x && is_newly_masked old new x.channel
+channel_of-listed : (c : ℕ) (l : List Entry) → Channels l → listed c l ≡ true → is_channel c ≡ true
+unfolding listed
+channel_of-listed c [] h e = absurd (false≢true e)
+channel_of-listed c (x ∷ l) h e = go (eqb c x.channel) refl e (channel_of-listed c l h.1)
+  where
+    go : (b : Bool) → eqb c x.channel ≡ b → b || listed c l ≡ true
+        → (listed c l ≡ true → is_channel c ≡ true) → is_channel c ≡ true
+    go true q e ih =
+        let k = h.0 in
+        rw (eqb-true c x.channel q, le-leb 1 x.channel k.0, le-leb x.channel 16 k.1)
+    go false q e ih = ih e
 
-pub way_busy : (old new : List ℕ) (x : Generator) → gives_way old new x ≡ true → is_busy x ≡ true
-way_busy old new x h = and_left (is_busy x) (is_newly_masked old new x.channel) h
+-- a busy generator whose channel is newly masked
+abbrev pub gives_way : ℕ → Table → Table → Generator → Bool
+gives_way p old new x = is_busy x && is_newly_masked p old new x.channel
+
+pub way_busy : (p : ℕ) (old new : Table) (x : Generator) → gives_way p old new x ≡ true → is_busy x ≡ true
+way_busy p old new x h = and_left (is_busy x) (is_newly_masked p old new x.channel) h
 
 -- the busy generators whose channel is newly masked are those whose channel the new table masks: none of them was
 -- masked before
-module _ (i : Instrument) (b : Book) (m : Matches i b)
-    (t : Table) (l : List Entry) (e : entries_of t ≡ l) (w : WellFormed l) where
-  abbrev row : List ℕ
-  row = shares_row i.polyphony t
-
-  new-share : (c : ℕ) → share_in row c ≡ share_of (with_table b l) c
+module _ (i : Instrument) (b : Book) (m : Matches i b) (t : Table) (l : List Entry) (e : entries_of t ≡ l) where
+  new-share : (c : ℕ) → of-table.share_of t i.polyphony c ≡ share_of (with_table b l) c
   unfolding of-table.share_of
-  new-share c =
-      row-share i.polyphony t (below_255 i b m) (subst WellFormed (sym e) w) c
-      ∙ ap₂ (λ (p : ℕ) (l : List Entry). lookup c (shares_from p 0 l)) m.polyphony e
+  new-share c = ap₂ (λ (p : ℕ) (l : List Entry). lookup c (shares_from p 0 l)) m.polyphony e
 
-  old-share : (c : ℕ) → listed c (quota b) ≡ true → is_masked (share_in i.shares c) ≡ false
-  old-share c h = ap is_masked (same-share i b m c) ∙ masked_unlisted c (quota b) ∙ ap not h
+  old-share : (c : ℕ) → listed c (quota b) ≡ true → is_masked (of-table.share_of i.table i.polyphony c) ≡ false
+  unfolding of-table.share_of
+  old-share c h =
+      ap₂ (λ (p : ℕ) (l : List Entry). is_masked (lookup c (shares_from p 0 l))) m.polyphony m.table
+      ∙ masked_unlisted c (quota b)
+      ∙ ap not h
 
   newly : (c : ℕ) → listed c (quota b) ≡ true
-      → is_newly_masked i.shares row c ≡ is_masked (share_of (with_table b l) c)
-  newly c h = rw (old-share c h) (ap is_masked (new-share c))
+      → is_newly_masked i.polyphony i.table t c ≡ is_masked (share_of (with_table b l) c)
+  newly c h =
+      rw (
+        channel_of-listed c (quota b) (shares-channels b.polyphony 0 b.table m.well_formed.channels) h,
+        old-share c h,
+      )
+      (ap is_masked (new-share c))
 
   abbrev way : Generator → Bool
-  way x = gives_way i.shares row x
+  way x = gives_way i.polyphony i.table t x
 
   slot-masked : (n c k : ℕ) → IsListed (quota b) (slot_of (generator n c k))
       → slot_of (if way (generator n c k) then generator 3 c k else generator n c k)
@@ -362,23 +373,22 @@ module _ (i : Instrument) (b : Book) (m : Matches i b)
       go true h = tt
       go false h = listed_unmasked c (quota (with_table b l)) h
 
-  pub step_table : Matches (new_table i t) (keep_table b l)
+  pub step_table : WellFormed l → Matches (new_table i t) (keep_table b l)
   unfolding new_table masked channel_of
-  step_table =
+  step_table w =
       record {
         polyphony = m.polyphony;
         id = m.id;
         table = e;
-        row = refl;
         sixteen = m.sixteen;
         holds = m.holds;
         bank = m.bank;
         kind = m.kind;
         playable = playable_restated b.polyphony i.generators
-            m.playable way 3 (way_busy i.shares row) refl (omega arith);
+            m.playable way 3 (way_busy i.polyphony i.table t) refl (omega arith);
         notes =
             sees_restated b.notes i.generators m.playable.ordered.sized way 3
-            (way_busy i.shares row) (is_of_masked (with_table b l)) false
+            (way_busy i.polyphony i.table t) (is_of_masked (with_table b l)) false
             (λ g. slot-masked (at i.generators g).state (at i.generators g).channel
             (at i.generators g).key (subst (IsListed (quota b)) (m.notes g) (m.unmasked g)))
             m.notes;
@@ -448,7 +458,6 @@ step_fresh p id h =
       polyphony = refl;
       id = refl;
       table = start_entries p;
-      row = refl;
       sixteen = refl;
       holds = λ c l. fresh-hold (c - 1);
       bank = refl;

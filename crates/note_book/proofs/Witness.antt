@@ -1,22 +1,21 @@
 -- Demand 3 bites. First its words, for any book and answer: what keeps within a share, what ends a run, what is
 -- served, robbed and lost is no less than the rules say; a claim emptied behind its name would not give these facts.
--- Then the words of who loses, the end of any list, the rhythm channels and the row of shares. Short lists in which the
--- theorems alone, not the device, say what becomes of a note stand in crate `witnesses`, so that they are computed once
--- and not for each wrong answer.
+-- Then the words of who loses, the end of any list, and the rhythm channels. Short lists in which the theorems alone,
+-- not the device, say what becomes of a note stand in crate `witnesses`, so that they are computed once and not for
+-- each wrong answer.
 -- Assumes nothing.
 use mathlib.Core.Path.{◌≡◌, refl, sym, ap, ◌∙◌}
 use mathlib.Core.Bool.{Bool, true, false, not, ◌&&◌, ◌||◌, false≢true}
 use mathlib.Core.List.{List, [], ◌∷◌, ◌++◌}
 use mathlib.Core.Option.{some, none}
-use Prim.Native.Nat.{ℕ, ◌+◌, ◌≤◌, ◌<◌}
+use Prim.Native.Nat.{ℕ, ◌≤◌, ◌<◌}
 use borrow.Author.Tests.{eqb-true}
 use lib.Dec.{eqb}
-use Rattle.loops.specs.Passes.{up_to, total, first_of}
+use Rattle.loops.specs.Passes.{total, first_of}
 use Rattle.drums.specs.Drums.{group_of, excludes}
 use Rattle.table.specs.declared.Entry.{Entry}
 use Rattle.shares.specs.declared.Share.TheVariants.{Units}
 use Rattle.shares.specs.Shares.{is_masked}
-use Rattle.shares.specs.Row.{share_byte, shares_row}
 use Rattle.generators.specs.Generators.{at, is_idle}
 use Rattle.allocation.specs.declared.Was.{Was}
 use Rattle.allocation.specs.declared.Was.TheVariants.{Stolen}
@@ -33,7 +32,6 @@ use Rattle.note_book.specs.Claim.{AtNoteOn, IsExact, Always, Each, IsRun, StaysW
 use Rattle.note_book.specs.Age.{named, by_answers}
 use Rattle.note_book.specs.WhoLoses.{first_to_go, goes, loss_answer, Foretold, PedalFirst, EachForetold, WhoLoses}
 use Rattle.note_book.specs.Rhythm.{SameRhythm}
-use Rattle.note_book.specs.Shares.{SameShares}
 use Rattle.note_book.proofs.Demand3.{demand_3}
 
 -- ---- the words, whatever the device
@@ -207,13 +205,3 @@ module _ (S : System) (s : S.State) (l : List S.Event) where
   pub rhythm-at : SameRhythm S s l → (c : ℕ)
       → of-instrument.is_rhythm (S.instrument (after S s l)) c ≡ of-book.is_rhythm (S.book (after S s l)) c
   rhythm-at h c = h c
-
--- and so is the row of shares, whole, behind the list: by the record's own table and P, and by the book
-module _ (S : System) (s : S.State) (l : List S.Event) where
-  pub row_by-table : SameShares S s l → (S.instrument (after S s l)).shares
-      ≡ shares_row (S.instrument (after S s l)).polyphony (S.instrument (after S s l)).table
-  row_by-table h = h.by_table
-
-  pub row_by-book : SameShares S s l
-      → (S.instrument (after S s l)).shares ≡ up_to (λ k. share_byte (of-book.share_of (S.book (after S s l)) (k + 1))) 16
-  row_by-book h = h.by_book

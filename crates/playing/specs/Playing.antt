@@ -27,7 +27,7 @@ note_reply i c k a = record { answer = reply_of a.taken c k; instrument = with_g
 
 -- note-on, velocity above 0
 unfoldable pub play_note_on : Instrument → ℕ → ℕ → Reply
-play_note_on i c k = note_reply i c k (note_on i.generators i.table i.shares i.polyphony (is_rhythm i c) c k)
+play_note_on i c k = note_reply i c k (note_on i.generators i.table i.polyphony (is_rhythm i c) c k)
 
 -- what a note-on can change
 abbrev pub sounded_of : Reply → Sounded

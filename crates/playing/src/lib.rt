@@ -63,16 +63,7 @@ pub fn sound(i: Instrument, channel: u8, key: u8) -> Sounded
     ensures { result ≡ sounded_of (play_note_on i channel key) }
 {
     let rhythm = i.is_rhythm(channel);
-    let row = i.shares;
-    let a = allocation::note_on(
-        i.generators,
-        i.table,
-        row,
-        i.polyphony,
-        rhythm,
-        channel,
-        key,
-    );
+    let a = allocation::note_on(i.generators, i.table, i.polyphony, rhythm, channel, key);
     let taken = a.taken;
     let after = a.generators;
     Sounded {

@@ -28,7 +28,7 @@ abbrev pub generator_number : GeneratorAnswer → Option ℕ
 generator_number (GeneratorIs s c k) = none
 generator_number NoGenerator = some 12
 
--- R7.5, R8.14: whether a channel is masked; R7.6: its share; R2.14: both from table and P
+-- R7.5, R8.14: whether a channel is masked; R7.6: its share
 abbrev pub mask_answer : Share → MaskAnswer
 mask_answer Masked = IsMasked
 mask_answer (Units n) = IsUnmasked

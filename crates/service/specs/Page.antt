@@ -72,7 +72,7 @@ rows_to table p busy (suc n) = rows_to table p busy n ++ row table p busy (suc n
 unfoldable pub page_of : List Entry → ℕ → (ℕ → ℕ) → List ℕ
 page_of table p busy = head ++ rows_to table p busy 16
 
--- R2.14: the page of a device, from table and P
+-- the page of a device
 unfoldable pub page_text : Device → List ℕ
 page_text d =
     page_of (entries_of d.instrument.table) d.instrument.polyphony (busy_count d.instrument.generators)

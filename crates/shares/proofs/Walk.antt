@@ -17,8 +17,7 @@ use Rattle.shares.specs.Shares.{lookup, shares_from}
 
 -- the first entry is the channel's and unmasked, with v before it; it is not
 module _ (p c v : ℕ) (x : Entry) (l : List Entry) where
-  pub share-first : leb x.value p && eqb c x.channel ≡ true
-      → lookup c (shares_from p v (x ∷ l)) ≡ Units (x.value - v)
+  share-first : leb x.value p && eqb c x.channel ≡ true → lookup c (shares_from p v (x ∷ l)) ≡ Units (x.value - v)
   unfolding lookup shares_from
   share-first t = go (leb x.value p) t
     where
@@ -28,10 +27,10 @@ module _ (p c v : ℕ) (x : Entry) (l : List Entry) where
       go true t = rw t
       go false t = impossible (cc)
 
-  pub share_past : leb x.value p && eqb c x.channel ≡ false
+  share-past : leb x.value p && eqb c x.channel ≡ false
       → lookup c (shares_from p v (x ∷ l)) ≡ lookup c (shares_from p x.value l)
   unfolding lookup shares_from
-  share_past t = go (leb x.value p) t
+  share-past t = go (leb x.value p) t
     where
       go : (b : Bool) → b && eqb c x.channel ≡ false
           → lookup c
@@ -52,7 +51,7 @@ module _ (l : List Entry) (n i : ℕ) where
       → leb (get_or l i (entry 0 0)).value p && eqb c (get_or l i (entry 0 0)).channel ≡ false
       → lookup c (shares_from p (get_or l i (entry 0 0)).value (drop (i + 1) (take n l))) ≡ r
   share-next p c v r h k e t =
-      sym (share_past p c v (get_or l i (entry 0 0)) (drop (i + 1) (take n l)) t) ∙ (rw (rest-next l n i h k) at e)
+      sym (share-past p c v (get_or l i (entry 0 0)) (drop (i + 1) (take n l)) t) ∙ (rw (rest-next l n i h k) at e)
 
   pub share_end : (p c v : ℕ) (r : Share) → n ≤ i → lookup c (shares_from p v (drop i (take n l))) ≡ r → Masked ≡ r
   unfolding lookup shares_from

@@ -1,4 +1,3 @@
--- Masks and shares: who may play, and how much; and the row of shares.
+-- Masks and shares: who may play, and how much.
 -- Assumes nothing.
 pub mod Shares
-pub mod Row

@@ -15,7 +15,6 @@ use Rattle.table.specs.declared.Entry.{Entry}
 use Rattle.table.specs.declared.Table.{Table}
 use Rattle.table.specs.Table.{entry, entries_of, table_of, start_table, listed}
 use Rattle.shares.specs.Shares.{shares_from, lookup, share_of}
-use Rattle.shares.specs.Row.{shares_row, share_in, shares_in}
 use Rattle.sysex.specs.SysEx.{is_mip, is_system_on, kind_of}
 use Rattle.mip.specs.Mip.{pairs, faulty, judged}
 use Rattle.drums.specs.Drums.{group_of, excludes}
@@ -203,11 +202,10 @@ pub worked_page : page_text (after Live (begin 24 0) song).device ≡
     -- 16  4 100 --- M  0
     ∷ 49 ∷ 54 ∷ 32 ∷ 32 ∷ 52 ∷ 32 ∷ 49 ∷ 48 ∷ 48 ∷ 32 ∷ 45 ∷ 45 ∷ 45 ∷ 32 ∷ 77 ∷ 32 ∷ 32 ∷ 48 ∷ 10 ∷ []
 unfolding up_to total filter_by first_of padded begun stored one_data_byte completed data_byte opened ended status_byte
-    split decode table_of start_table listed shares_from lookup share_of shares_row share_in shares_in is_mip is_system_on kind_of
-    pairs faulty judged group_of excludes of-channel.fresh of-controllers.data_entry of-controllers.stored
-    of-controllers.controlled ages_of newest assigned silent changes state_after changed is_among leaves silenced
-    lowest_idle wanted oldest busy_count over_share steal_from victim cleared choice note_on fresh channel_at replaced
-    channel_of with_channel is_rhythm masked notes_after play_control play_note_off play_note_on played started new_table mip_taken
-    exclusive heard byte_taken taken report_taken reported after in_two in_three standing_from head line row rows_to page_of
-    page_text
+    split decode table_of start_table listed shares_from lookup share_of is_mip is_system_on kind_of pairs faulty judged
+    group_of excludes of-channel.fresh of-controllers.data_entry of-controllers.stored of-controllers.controlled
+    ages_of newest assigned silent changes state_after changed is_among leaves silenced lowest_idle wanted oldest
+    busy_count over_share steal_from victim cleared choice note_on fresh channel_at replaced channel_of with_channel
+    is_rhythm masked notes_after play_control play_note_off play_note_on played started new_table mip_taken exclusive heard
+    byte_taken taken report_taken reported after in_two in_three standing_from head line row rows_to page_of page_text
 worked_page = refl

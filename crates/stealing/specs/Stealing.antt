@@ -1,13 +1,10 @@
 -- Step 5 of a note-on: the channel to steal from, and the generator that is stolen.
-use Rattle.std.specs.Prelude.{ℕ, ◌+◌, Bool, false, List, [], ◌∷◌, eqb, ltb}
+use Rattle.std.specs.Prelude.{ℕ, ◌+◌, List, [], ◌∷◌, eqb, ltb}
 use Rattle.std.proofs.Math.Option.{Option, some, none}
 use Rattle.loops.specs.Cases.{if◌then◌else◌, bit}
 use Rattle.table.specs.declared.Entry.{Entry}
 use Rattle.table.specs.declared.Table.{Table}
-use Rattle.table.specs.Table.{entries_of}
-use Rattle.shares.specs.declared.Share.{Share}
-use Rattle.shares.specs.declared.Share.TheVariants.{Masked, Units}
-use Rattle.shares.specs.Row.{shares_in}
+use Rattle.shares.specs.Shares.{shares}
 use Rattle.generators.specs.declared.Generators.{Generators}
 use Rattle.candidates.specs.declared.Found.{Found}
 use Rattle.candidates.specs.declared.Found.TheVariants.{Nothing}
@@ -18,11 +15,6 @@ use Rattle.stealing.specs.declared.Loser.TheVariants.{Channel, Nobody}
 -- R5.7: the busy generators of channel c, with the new note, which is one of channel new
 abbrev pub counted : Generators → ℕ → ℕ → ℕ
 counted s new c = busy_count s c + bit (eqb c new)
-
--- R5.8: n notes are above a share; R2.12: of a masked channel they never are
-abbrev pub is_over : ℕ → Share → Bool
-is_over n Masked = false
-is_over n (Units share) = ltb share n
 
 abbrev pub otherwise : Option ℕ → Option ℕ → Option ℕ
 otherwise (some c) o = some c
@@ -38,9 +30,8 @@ abbrev pub to_loser : Option ℕ → Loser
 to_loser (some c) = Channel c
 to_loser none = Nobody
 
--- R2.13: the shares are those that stand in the row, the priorities those of the table
-unfoldable pub steal_from : Generators → Table → List ℕ → ℕ → Loser
-steal_from s t row new = to_loser (over_share (counted s new) (shares_in row (entries_of t)))
+unfoldable pub steal_from : Generators → Table → ℕ → ℕ → Loser
+steal_from s t p new = to_loser (over_share (counted s new) (shares p t))
 
 -- R5.9: its oldest sustained generator, and its oldest held one where it has none sustained; R5.10: there may be none
 abbrev pub loses : Generators → Loser → Found
@@ -48,5 +39,5 @@ loses s (Channel d) = oldest (stolen_first s d) s
 loses s Nobody = Nothing
 
 -- step 5 whole: the generator that a new note of this channel steals, where all are busy
-unfoldable pub victim : Generators → Table → List ℕ → ℕ → Found
-victim s t row new = loses s (steal_from s t row new)
+unfoldable pub victim : Generators → Table → ℕ → ℕ → Found
+victim s t p new = loses s (steal_from s t p new)

@@ -1,13 +1,11 @@
 // Who loses a note (R5.7 to R5.10): the channel to steal from, and the generator that is stolen, for every value of
-// the generators, of the table and of the row of shares. Assumes nothing.
-ghost use Rattle.std.specs.Prelude.{◌≡◌};
-ghost use Rattle.shares.specs.Row.{share_in};
-ghost use Rattle.stealing.specs.Stealing.{counted, is_over, steal_from, victim};
+// the generators and of the table. Assumes nothing.
+ghost use Rattle.std.specs.Prelude.{◌≡◌, ◌-◌, ◌&&◌, leb, ltb};
+ghost use Rattle.stealing.specs.Stealing.{counted, steal_from, victim};
 
 use candidates::Found;
 use generators::Generators;
-use shares::Share;
-use table::Table;
+use table::{Entry, Table};
 
 // The channel to steal from.
 #[derive(Drop)]
@@ -18,27 +16,33 @@ enum Loser {
     Nobody,
 }
 
-// Whether a channel, unmasked, is over its share with a new note, which is one of channel `new`.
-fn is_over(generators: Generators, row: [u8; 16], channel: u8, new: u8) -> bool
-    ensures { result ≡ is_over (counted generators new channel) (share_in row channel) }
+// Whether the channel of an entry, unmasked, is over its share with a new note of `channel`.
+fn is_over(generators: Generators, entry: Entry, before: u8, polyphony: u8, channel: u8) -> bool
+    ensures { result ≡ (leb entry.value polyphony
+        && ltb (entry.value - before) (counted generators channel entry.channel)) }
 {
-    let Share::Units(share) = shares::share_in(row, channel) else {
+    if polyphony < entry.value {
         return false;
-    };
-    let count = candidates::busy_count(generators, channel) + loops::one(channel == new);
-    share < count
+    }
+    let count = candidates::busy_count(generators, entry.channel)
+        + loops::one(entry.channel == channel);
+    loops::less(entry.value, before) < count
 }
 
 // The channel of lowest priority over its share: from the end of the table, so that mostly few channels are counted.
-fn steal_from(generators: Generators, table: Table, row: [u8; 16], channel: u8) -> Loser
-    ensures { result ≡ steal_from generators table row channel }
+fn steal_from(generators: Generators, table: Table, polyphony: u8, channel: u8) -> Loser
+    ensures { result ≡ steal_from generators table polyphony channel }
 {
     let entries = table.entries;
     let mut i = loops::at_most(16, table.count);
     while 0 < i {
         i -= 1;
         let e = entries[i as usize];
-        if is_over(generators, row, e.channel, channel) {
+        // The entry before, which the first has not: read here, since a function of the table would copy it for each
+        // entry.
+        let x = entries[loops::less(i, 1) as usize];
+        let before = loops::if_else(i == 0, 0, x.value);
+        if is_over(generators, e, before, polyphony, channel) {
             return Loser::Channel(e.channel);
         }
     }
@@ -47,10 +51,10 @@ fn steal_from(generators: Generators, table: Table, row: [u8; 16], channel: u8) 
 
 // The generator that a new note of the channel steals where all are busy: of the channel to steal from the oldest
 // sustained one, and the oldest held one where none is sustained.
-pub fn victim(generators: Generators, table: Table, row: [u8; 16], channel: u8) -> Found
-    ensures { result ≡ victim generators table row channel }
+pub fn victim(generators: Generators, table: Table, polyphony: u8, channel: u8) -> Found
+    ensures { result ≡ victim generators table polyphony channel }
 {
-    let Loser::Channel(d) = steal_from(generators, table, row, channel) else {
+    let Loser::Channel(d) = steal_from(generators, table, polyphony, channel) else {
         return Found::Nothing;
     };
     candidates::oldest(generators, candidates::stolen_first(generators, d))

@@ -1,5 +1,5 @@
-// The commands G, M, S, D, T, X, W and C, which ask the device and change nothing, and L with one number, which asks
-// for a channel's gains. Assumes nothing.
+// The commands G, M, S, D, T, W and C, which ask the device and change nothing, and L with one number, which asks for a
+// channel's gains. Assumes nothing.
 use crate::answers::{put_malformed, put_refused};
 use crate::sounds::put_channel_levels;
 use channels::Channel;
@@ -80,17 +80,6 @@ fn put_shares(page: &mut [u8], at: usize, d: Device) -> usize {
             queries::share_query(d, c),
         );
         c += 1;
-    }
-    put(page, k, b"\n")
-}
-
-// The row of shares as it stands in the record.
-fn put_row(page: &mut [u8], at: usize, row: [u8; 16]) -> usize {
-    let mut k = put(page, at, b"row");
-    let mut i: usize = 0;
-    while i < 16 {
-        k = put_field(page, k, row[i]);
-        i += 1;
     }
     put(page, k, b"\n")
 }
@@ -190,11 +179,6 @@ pub(crate) fn put_told(
 ) -> usize {
     if (command == b'T') & (count == 0) {
         return put_shares(page, at, d);
-    }
-    if (command == b'X') & (count == 0) {
-        let i = d.instrument;
-        let row = i.shares;
-        return put_row(page, at, row);
     }
     if (command == b'W') & (count == 0) {
         return put_players(page, at, d);

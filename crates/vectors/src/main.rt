@@ -10,7 +10,6 @@
 //     M cc        asks whether channel cc is masked
 //     S cc        asks for the share of channel cc
 //     T           the shares of channels 1 to 16 in one line, - for a masked channel
-//     X           the row of shares as it stands in the record, in one line
 //     W           who plays: a line as that of G for each generator that is not idle
 //     D cc        asks whether channel cc is a rhythm channel
 //     C cc        the thirteen numbers of channel cc, in the order of R1.8

@@ -1,8 +1,8 @@
 -- The claims bite, in short lists: a drum is served, an idle generator is given, and so is one whose note a mode
 -- message, a drum of its group on channel 11 or a change of that channel's kind has ended; a theft that is allowed; a
 -- note on the pedal that goes before an older key; and runs that bring a drum along. What stood there before is
--- computed from the definitions; what becomes of the last note `demand_3` alone says, `who_loses` who pays for it,
--- `rhythm_is_by-book` which channels are rhythm channels, and `shares_are_by-book` which shares stand in the record.
+-- computed from the definitions; what becomes of the last note `demand_3` alone says, `who_loses` who pays for it, and
+-- `rhythm_is_by-book` which channels are rhythm channels.
 -- Assumes nothing.
 use mathlib.Core.Path.{◌≡◌, refl, sym, ap, ◌∙◌, subst}
 use mathlib.Core.Bool.{Bool, true, false, false≢true}
@@ -17,7 +17,6 @@ use Rattle.table.specs.Table.{table_of, start_table, listed}
 use Rattle.sysex.specs.SysEx.{is_mip, is_system_on, kind_of}
 use Rattle.mip.specs.Mip.{pairs, faulty, judged}
 use Rattle.shares.specs.Shares.{shares_from, lookup, is_masked, share_of}
-use Rattle.shares.specs.Row.{shares_row, share_in, shares_in}
 use Rattle.drums.specs.Drums.{group_of, excludes}
 use Rattle.ages.specs.Ages.{ages_of, newest}
 use Rattle.generators.specs.Generators.{assigned, silent}
@@ -49,7 +48,7 @@ use Rattle.note_book.specs.Book as of-book
 use Rattle.note_book.specs.Claim.{stolen_note, is_loss, IsFull, is_served, AtNoteOn, after, Both, Live, begin}
 use Rattle.note_book.specs.Age.{by_answers}
 use Rattle.note_book.specs.WhoLoses.{payer, goes, loss_answer, Foretold, PedalFirst}
-use Rattle.note_book.proofs.Demand3.{demand_3, who_loses, rhythm_is_by-book, shares_are_by-book}
+use Rattle.note_book.proofs.Demand3.{demand_3, who_loses, rhythm_is_by-book}
 use Rattle.reports.specs.Reports.{reported}
 use Rattle.note_book.proofs.Witness.{IsGiven, not_lost, key_unstolen, foretold-at, pedal_first-at}
 
@@ -111,10 +110,10 @@ new_mode =
 
 pub given_behind_126 : IsGiven (Live.answer new_mode (Byte 64))
 unfolding up_to total filter_by first_of padded begun stored one_data_byte completed data_byte opened ended status_byte
-    split decode table_of start_table shares_from lookup share_of shares_row share_in group_of excludes ages_of newest assigned
-    silent changes state_after changed is_among leaves silenced lowest_idle cleared choice note_on fresh is_rhythm play_note_on
-    played play_control notes_after controlled of-controllers.stored with_channel started heard byte_taken taken keep_message
-    keep after
+    split decode table_of start_table shares_from lookup share_of group_of excludes ages_of newest assigned silent
+    changes state_after changed is_among leaves silenced lowest_idle cleared choice note_on fresh is_rhythm play_note_on
+    played play_control notes_after controlled of-controllers.stored with_channel
+    started heard byte_taken taken keep_message keep after
 given_behind_126 = go (is_loss new_mode.book 1 64 (Live.answer new_mode (Byte 64))) refl
   where
     go : (l : Bool) → is_loss new_mode.book 1 64 (Live.answer new_mode (Byte 64)) ≡ l
@@ -143,8 +142,8 @@ hi_hat = after Live (begin 1 0) (drum_kit ++ (Byte 0x9A ∷ Byte 46 ∷ Byte 64 
 
 pub hi_hat_given : IsGiven (Live.answer hi_hat (Byte 64))
 unfolding up_to total filter_by first_of padded begun stored one_data_byte completed data_byte opened ended status_byte
-    split decode table_of start_table shares_from lookup share_of shares_row share_in group_of excludes ages_of newest assigned
-    silent changes state_after changed is_among leaves silenced lowest_idle cleared choice note_on fresh is_rhythm play_note_on
+    split decode table_of start_table shares_from lookup share_of group_of excludes ages_of newest assigned silent
+    changes state_after changed is_among leaves silenced lowest_idle cleared choice note_on fresh is_rhythm play_note_on
     played play_control notes_after controlled of-controllers.stored of-channel.fresh rhythm_by channel_at replaced
     channel_of with_channel kind_set play_program started heard byte_taken taken keep_message keep after
 hi_hat_given = go (is_loss hi_hat.book 11 42 (Live.answer hi_hat (Byte 64))) refl
@@ -169,11 +168,11 @@ pub closed_hat_served : is_served 11 42
     (Live.answer (after Live (begin 1 0) (kit_alone ++ (drum_kit ++ (Byte 0x9A ∷ Byte 46 ∷ Byte 64 ∷ Byte 42 ∷ []))))
     (Byte 64)) ≡ true
 unfolding up_to total filter_by first_of padded begun stored one_data_byte completed data_byte opened ended status_byte
-    split decode table_of start_table shares_from lookup share_of shares_row share_in group_of excludes ages_of newest assigned
-    silent changes state_after changed is_among leaves silenced lowest_idle cleared choice note_on fresh is_rhythm play_note_on
+    split decode table_of start_table shares_from lookup share_of group_of excludes ages_of newest assigned silent
+    changes state_after changed is_among leaves silenced lowest_idle cleared choice note_on fresh is_rhythm play_note_on
     played play_control notes_after controlled of-controllers.stored of-channel.fresh rhythm_by channel_at replaced
-    channel_of with_channel kind_set play_program started heard byte_taken taken keep_message keep after listed is_mip
-    is_system_on kind_of pairs faulty judged masked new_table mip_taken exclusive
+    channel_of with_channel kind_set play_program started heard byte_taken taken keep_message keep after
+    listed is_mip is_system_on kind_of pairs faulty judged masked new_table mip_taken exclusive
 closed_hat_served =
     ((demand_3 1 0 (kit_alone ++ (hats ++ []))).shared kit_alone hats [] refl
     (tt, (tt, (tt, (tt, (tt, (tt, (tt, (tt, (tt, (tt, tt)))))))))) 11
@@ -188,8 +187,8 @@ behind_the_change =
 
 pub given_behind_a_change_of-kind : IsGiven (Live.answer behind_the_change (Byte 64))
 unfolding up_to total filter_by first_of padded begun stored one_data_byte completed data_byte opened ended status_byte
-    split decode table_of start_table shares_from lookup share_of shares_row share_in group_of excludes ages_of newest assigned
-    silent changes state_after changed is_among leaves silenced lowest_idle cleared choice note_on fresh is_rhythm play_note_on
+    split decode table_of start_table shares_from lookup share_of group_of excludes ages_of newest assigned silent
+    changes state_after changed is_among leaves silenced lowest_idle cleared choice note_on fresh is_rhythm play_note_on
     played play_control notes_after controlled of-controllers.stored of-channel.fresh rhythm_by channel_at replaced
     channel_of with_channel kind_set play_program started heard byte_taken taken keep_message keep after
 given_behind_a_change_of-kind =
@@ -203,20 +202,6 @@ given_behind_a_change_of-kind =
         ).fair.1.1.1.1.1.1.1.1.1.1.0 e 0 1-of-1).0)
     go false e = not_lost behind_the_change.book 1 64 (Live.answer behind_the_change (Byte 64)) refl e
 
--- ---- P 10, and a table of four channels, of which the last is above P: the record has their shares and 255 for all
--- others, since the book has
-
-abbrev pub four_channels : List Event
-four_channels =
-    Byte 0xF0 ∷ Byte 0x7F ∷ Byte 0x7F ∷ Byte 0x0B ∷ Byte 0x01 ∷ Byte 1 ∷ Byte 3 ∷ Byte 0 ∷ Byte 7 ∷ Byte 15 ∷ Byte 7
-    ∷ Byte 2 ∷ Byte 11 ∷ Byte 0xF7 ∷ []
-
-pub four_shares : (after Live (begin 10 0) four_channels).device.instrument.shares
-    ≡ 4 ∷ 3 ∷ 255 ∷ 255 ∷ 255 ∷ 255 ∷ 255 ∷ 255 ∷ 255 ∷ 255 ∷ 255 ∷ 255 ∷ 255 ∷ 255 ∷ 255 ∷ 0 ∷ []
-unfolding up_to begun stored one_data_byte completed data_byte opened ended status_byte split shares_from lookup started heard
-    byte_taken taken keep_message keep after listed is_mip is_system_on kind_of pairs faulty judged mip_taken exclusive fresh
-four_shares = (shares_are_by-book 10 0 four_channels).by_book
-
 -- ---- P 1, a note held on channel 1: a drum steals it
 
 abbrev theft : Both
@@ -226,10 +211,10 @@ theft = after Live (begin 1 0) (Byte 0x90 ∷ Byte 60 ∷ Byte 64 ∷ Byte 0x99 
 pub theft_when_full : (is_loss theft.book 10 36 (Live.answer theft (Byte 64)) ≡ true)
     × ((is_note (theft.book.notes 0) ≡ true) × (is_ended true 10 36 (theft.book.notes 0) ≡ false))
 unfolding up_to total filter_by first_of padded begun stored one_data_byte completed data_byte opened ended status_byte
-    split decode table_of start_table shares_from lookup share_of shares_row share_in shares_in group_of excludes ages_of newest
-    assigned silent changes state_after changed is_among leaves silenced lowest_idle wanted oldest stolen_first busy_count
-    over_share steal_from victim cleared choice note_on fresh is_rhythm play_note_on played started heard byte_taken taken
-    keep_message keep after
+    split decode table_of start_table shares_from lookup share_of group_of excludes ages_of newest assigned silent
+    changes state_after changed is_among leaves silenced lowest_idle wanted oldest stolen_first busy_count over_share
+    steal_from victim cleared choice note_on fresh is_rhythm play_note_on played started heard byte_taken taken keep_message
+    keep after
 theft_when_full =
     let lost : is_loss theft.book 10 36 (Live.answer theft (Byte 64)) ≡ true = refl in (
       lost,
@@ -278,10 +263,10 @@ module _ (s : Both) (order : List ℕ) (w : BeforeE4 s order) where
 
 before_e4 : BeforeE4 (after Live (begin 2 0) pianist) (by_answers Live [] (begin 2 0) pianist)
 unfolding up_to total filter_by first_of padded begun stored one_data_byte completed data_byte opened ended status_byte
-    split decode table_of start_table shares_from lookup share_of shares_row share_in group_of excludes ages_of newest assigned
-    silent changes state_after changed is_among leaves silenced lowest_idle over_share cleared choice note_on fresh is_rhythm
-    play_note_on played play_note_off channel_of play_control notes_after controlled of-controllers.stored with_channel started
-    heard byte_taken taken keep_message keep after
+    split decode table_of start_table shares_from lookup share_of group_of excludes ages_of newest assigned silent
+    changes state_after changed is_among leaves silenced lowest_idle over_share cleared choice note_on fresh is_rhythm
+    play_note_on played play_note_off channel_of play_control notes_after controlled of-controllers.stored with_channel
+    started heard byte_taken taken keep_message keep after
 before_e4 =
     record { hears = refl; generators = refl; c4 = refl; d4 = refl; unmasked = refl; pays = refl; ages = refl }
 
@@ -306,10 +291,10 @@ abbrev no_room : Both
 no_room = after Live (begin 1 0) (first_drum ++ (Byte 0x90 ∷ Byte 60 ∷ []))
 
 pub drum_kept : is_of 10 (stolen_note no_room.book 1 60 (Live.answer no_room (Byte 64))) ≡ false
-unfolding up_to total filter_by first_of padded begun stored one_data_byte completed data_byte opened ended status_byte
-    split decode table_of start_table shares_from lookup share_of shares_row share_in group_of excludes ages_of newest assigned
-    silent changes state_after changed is_among leaves silenced lowest_idle cleared choice note_on fresh is_rhythm play_note_on
-    played started heard byte_taken taken keep_message keep after
+unfolding up_to total filter_by first_of padded begun stored one_data_byte completed data_byte opened
+    ended status_byte split decode table_of start_table shares_from lookup share_of group_of excludes ages_of
+    newest assigned silent changes state_after changed is_among leaves silenced lowest_idle cleared
+    choice note_on fresh is_rhythm play_note_on played started heard byte_taken taken keep_message keep after
 drum_kept =
     ((demand_3 1 0 (first_drum ++ (Byte 0x90 ∷ Byte 60 ∷ Byte 64 ∷ Report 0 ∷ []))).shared first_drum
     (Byte 0x90 ∷ Byte 60 ∷ Byte 64 ∷ []) (Report 0 ∷ []) refl (tt, (tt, (tt, tt)))
@@ -324,10 +309,10 @@ abbrev pub run : List Event
 run = Byte 0x90 ∷ Byte 60 ∷ Byte 64 ∷ Byte 0x99 ∷ Byte 38 ∷ Byte 64 ∷ []
 
 pub second_drum_served : is_served 10 38 (Live.answer all_taken (Byte 64)) ≡ true
-unfolding up_to total filter_by first_of padded begun stored one_data_byte completed data_byte opened ended status_byte
-    split decode table_of start_table shares_from lookup share_of shares_row share_in group_of excludes ages_of newest assigned
-    silent changes state_after changed is_among leaves silenced lowest_idle cleared choice note_on fresh is_rhythm play_note_on
-    played started heard byte_taken taken keep_message keep after
+unfolding up_to total filter_by first_of padded begun stored one_data_byte completed data_byte opened
+    ended status_byte split decode table_of start_table shares_from lookup share_of group_of excludes ages_of
+    newest assigned silent changes state_after changed is_among leaves silenced lowest_idle cleared
+    choice note_on fresh is_rhythm play_note_on played started heard byte_taken taken keep_message keep after
 second_drum_served =
     ((demand_3 2 0 (first_drum ++ (run ++ (Report 0 ∷ [])))).shared first_drum run
     (Report 0 ∷ []) refl (tt, (tt, (tt, (tt, (tt, (tt, tt)))))) 10

@@ -62,7 +62,6 @@ pub struct Record {
     pub polyphony: u8,
     pub id: u8,
     pub entries: Vec<Entry>,
-    pub shares: [u8; 16],
     pub channels: Vec<[u8; 13]>,
     pub second_drums: bool,
     pub generators: Vec<GeneratorView>,
@@ -75,7 +74,6 @@ pub fn record(device: &Device) -> Record {
         polyphony: device.polyphony(),
         id: device.id(),
         entries: device.table().entries().to_vec(),
-        shares: device.shares(),
         channels: device.channels().iter().map(|c| c.numbers()).collect(),
         second_drums: device.second_drums(),
         generators: (0..device.polyphony())

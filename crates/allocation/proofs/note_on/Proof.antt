@@ -8,14 +8,14 @@ use Rattle.allocation.proofs.note_on.Tie as tie
 
 returns : tie.Need-returns
 unfolding note_on
-returns c = simp (sym c.before.masked-in.ensures ∙ c.if1.true)
+returns c = simp (sym c.before.masks.ensures ∙ c.if1.true)
 
 returns-2 : tie.Need-returns-2
 unfolding note_on
 returns-2 c =
     let b = c.before.before.before.before in
     simp (
-      sym b.before.masked-in.ensures ∙ b.if1.false,
+      sym b.before.masks.ensures ∙ b.if1.false,
       sym c.before.before.before.clear.ensures,
       sym c.before.before.choose.ensures,
       c.enum_told.given.1,
@@ -26,7 +26,7 @@ unfolding note_on
 returns-3 c =
     let b = c.before.before.before.before in
     simp (
-      sym b.before.before.before.masked-in.ensures ∙ b.before.before.if1.false,
+      sym b.before.before.before.masks.ensures ∙ b.before.before.if1.false,
       c.assign.ensures,
       sym b.before.clear.ensures,
       sym b.choose.ensures,

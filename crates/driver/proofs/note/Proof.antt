@@ -182,7 +182,7 @@ module _ {M : Type 1} {𝓤 : Ura M} (𝓛 : Logic 𝓤)
         (LL.tells Z.the_type Z'.the_laws s (v ∷ []) is) refl $
         assigns ! (of_opd ! (load ! (from ! (fld ! refl (stop !))) (look_in ! 6 (sub ! 1 refl (whole !)))))
         (from ! (hop ! (look ! 12 refl) (fld ! refl (fld ! refl (stop !)))))
-        (store_in ! 0 (sub ! 6 refl (sub ! 1 refl (whole !))) ((LL.lawful G.the_type G'.the_laws 𝓛).typed
+        (store_in ! 0 (sub ! 5 refl (sub ! 1 refl (whole !))) ((LL.lawful G.the_type G'.the_laws 𝓛).typed
         s.generators _ (LL.owed Z.the_type Z'.the_laws s _ is).1.0).0) $
         assigns ! (of_opd ! (load ! (from ! (fld ! refl (stop !))) (look_in ! 6 (sub ! 0 refl (whole !)))))
         (from ! (stop !)) (init ! 14 refl ((EL.lawful N.the_type N'.the_laws 𝓛 tt).typed s.answer _

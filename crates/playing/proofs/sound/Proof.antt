@@ -8,8 +8,7 @@ use Rattle.playing.proofs.sound.Tie as tie
 returns : tie.Need-returns
 unfolding play_note_on
 returns c =
-    let b = c.before.before in
-    simp (c.note-answer.ensures, b.note-on.ensures, b.before.before.is-rhythm.ensures)
+    simp (c.note-answer.ensures, c.before.before.note-on.ensures, c.before.before.before.is-rhythm.ensures)
 
 pub sound-spec : {M : Type 1} → statement M
 sound-spec =

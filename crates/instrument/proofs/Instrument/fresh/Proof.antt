@@ -1,4 +1,4 @@
--- `instrument::Instrument::fresh` meets its contract, part by part; the table is set last.
+-- `instrument::Instrument::fresh` meets its contract, part by part.
 -- Assumes nothing.
 use Rattle.instrument.specs.Instrument.{fresh}
 use borrow.Author.Rules.{rules}
@@ -7,16 +7,7 @@ use Rattle.instrument.proofs.Instrument.fresh.Tie as tie
 
 returns : tie.Need-returns
 unfolding fresh
-returns c =
-    let b = c.before in
-    simp (
-      c.with-table.ensures,
-      b.silent.ensures,
-      b.before.fresh-channels.ensures,
-      b.before.before.start.ensures,
-    )
+returns c = simp (c.silent.ensures, c.before.fresh-channels.ensures, c.before.before.start.ensures)
 
 pub fresh-spec : {M : Type 1} → statement M
-fresh-spec =
-    tie.close (tie.spec (λ c κs. search rules) (λ c κs. search rules)
-    (λ c κs. search rules) (λ c κs. search rules) returns)
+fresh-spec = tie.close (tie.spec (λ c κs. search rules) (λ c κs. search rules) (λ c κs. search rules) returns)
