@@ -1,11 +1,12 @@
 // The order of assignment among the sounding generators (R1.6, R1.7): a list of their numbers, the oldest first. A
 // list and no counter, so that no history is too long for it. By value, for every value. Assumes nothing.
+#![tactic(auto)]
 ghost use Rattle.std.specs.Prelude.{◌≡◌};
 ghost use Rattle.ages.specs.Ages.{without, pushed, newest};
 
 // The first `count` numbers are the sounding generators, the oldest first; the others are 0.
 #[repr(C)]
-#[derive(Drop)]
+#[derive(Clone, Copy)]
 pub struct Ages {
     pub count: u8,
     pub generator: [u8; 64],

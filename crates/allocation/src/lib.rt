@@ -1,5 +1,6 @@
 // Which generator a note gets (R5.1 to R5.11): steps 1 to 5 and the assignment, by value, for every value of the
 // generators and of the table. Assumes nothing.
+#![tactic(auto)]
 ghost use Rattle.std.specs.Prelude.{◌≡◌};
 ghost use Rattle.allocation.specs.Allocation.{cleared, choice, note_on};
 
@@ -10,7 +11,7 @@ use silence::Leaving;
 use table::Table;
 
 // What the generator of a new note was.
-#[derive(Drop)]
+#[derive(Clone, Copy)]
 pub enum Was {
     // It was idle.
     Idle,
@@ -21,7 +22,7 @@ pub enum Was {
 }
 
 // What a note-on gets.
-#[derive(Drop)]
+#[derive(Clone, Copy)]
 pub enum Taken {
     // This generator.
     Took(u8, Was),
@@ -29,7 +30,7 @@ pub enum Taken {
     Refused(u8),
 }
 
-#[derive(Drop)]
+#[derive(Clone, Copy)]
 pub struct Allocated {
     pub taken: Taken,
     pub generators: Generators,

@@ -3,6 +3,7 @@
 // output the 38 bytes of the message, nothing where a number falls; on standard error a line, number, line and
 // message. The kit's programs end with status 0; `./programs` links one with the status that this call answers.
 // Assumes the contracts of the C library's read and write, and nothing else.
+#![tactic(auto)]
 fn main() {
     filters::arrange_status();
 }

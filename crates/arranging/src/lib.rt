@@ -1,6 +1,7 @@
 // The MIP message of a song's log (R14.1 to R14.6, R14.9), by value, for an order and a log of any bytes; the log in
 // parts of any length (R14.10), so that it may be longer than memory. What holds of every message that is written is
 // stated and proved in crate `arranged`. Assumes nothing.
+#![tactic(auto)]
 ghost use Rattle.std.specs.Prelude.{◌≡◌, ◌&&◌, not, ◌<◌, eqb, get_or};
 ghost use Rattle.splitter.specs.Split.{body, split};
 ghost use Rattle.sysex.specs.SysEx.{is_mip};
@@ -21,7 +22,7 @@ use sysex::Kind;
 
 // The message, with number 0; or 38 zeros beside R8.15, R8.16 or R8.17.
 #[repr(C)]
-#[derive(Drop)]
+#[derive(Clone, Copy)]
 pub struct Written {
     // The last line that was looked at, from 1: where the number fell, or how many there are; 0 with 16.
     pub line: u64,
@@ -31,7 +32,7 @@ pub struct Written {
 
 // What the log came to so far. Its numbers are plain ones, as in every record that a driver lends.
 #[repr(C)]
-#[derive(Drop)]
+#[derive(Clone, Copy)]
 pub struct Song {
     pub device: Device,
     pub order: [u8; 16],
@@ -45,7 +46,7 @@ pub struct Song {
 
 // Between two parts of a log: the song, and the line that is not ended.
 #[repr(C)]
-#[derive(Drop)]
+#[derive(Clone, Copy)]
 pub struct Run {
     pub song: Song,
     pub line: Line,

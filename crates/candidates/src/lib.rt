@@ -1,5 +1,6 @@
 // The generators that a note-on may take (R5.5 to R5.7, R5.9), by value, for every value, in one pass each.
 // Assumes nothing.
+#![tactic(auto)]
 ghost use Rattle.std.specs.Prelude.{◌≡◌, not, ◌≤◌, eqb, get_or};
 ghost use Rattle.loops.specs.Cases.{bit};
 ghost use Rattle.loops.specs.Passes.{total, first_of, marks_of};
@@ -11,7 +12,7 @@ use ages::Ages;
 use generators::Generators;
 
 // The generators among which the oldest is looked for, or which are counted.
-#[derive(Drop)]
+#[derive(Clone, Copy)]
 pub enum Want {
     // Those that are releasing: the first to be taken where none is idle.
     Releasing,
@@ -24,7 +25,7 @@ pub enum Want {
 }
 
 // What a search found.
-#[derive(Drop)]
+#[derive(Clone, Copy)]
 pub enum Found {
     // A generator, by its number.
     At(u8),

@@ -1,6 +1,7 @@
 // A program's way to standard input, output and error. Assumes the contracts of the C library's read and write, and
 // nothing else: they say how many bytes a call moved or that it moved none, and not why. So a call that moved none is
 // made again, which goes on after an interruption, and what keeps failing is an error.
+#![tactic(auto)]
 ghost use Rattle.std.specs.Prelude.{◌≡◌, length, ◌+◌, ◌≤◌, min};
 ghost use Rattle.console.specs.Console.{Reads, Writes};
 
@@ -10,7 +11,7 @@ use libc::{STDERR_FILENO, STDIN_FILENO, STDOUT_FILENO};
 // a row; an input that has no byte yet and does not wait for one (O_NONBLOCK) is an error that is said.
 const TRIES: u32 = 100;
 
-#[derive(Drop)]
+#[derive(Clone, Copy)]
 pub enum Input {
     // So many bytes came, one at least, and stand at the buffer's start.
     Bytes(usize),
@@ -20,7 +21,7 @@ pub enum Input {
     Unreadable,
 }
 
-#[derive(Drop)]
+#[derive(Clone, Copy)]
 pub enum Output {
     // All was taken.
     Whole,

@@ -2,6 +2,7 @@
 // call by value takes it, for every value of the record. Most bytes complete nothing and touch the parser alone, so
 // the rest of the record is not copied for them. The other event, a report, is in crate `driver_reports`. Assumes
 // nothing.
+#![tactic(auto)]
 ghost use Rattle.std.specs.Prelude.{◌≡◌};
 ghost use Rattle.events.specs.Events.{taken};
 ghost use Rattle.events.specs.declared.Event.TheVariants.{Byte};

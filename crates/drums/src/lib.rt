@@ -1,9 +1,10 @@
 // Which drums exclude each other (R5.3, R5.4), for every key value. Assumes nothing.
+#![tactic(auto)]
 ghost use Rattle.std.specs.Prelude.{◌≡◌};
 ghost use Rattle.drums.specs.Drums.{group_of, excludes};
 
 // A drum key with the number of its exclusive group.
-#[derive(Drop)]
+#[derive(Clone, Copy)]
 struct Drum {
     key: u8,
     group: u8,

@@ -1,11 +1,12 @@
 // The device by its events, bytes and reports, by value, for every value of the record. Assumes nothing.
+#![tactic(auto)]
 ghost use Rattle.std.specs.Prelude.{◌≡◌};
 ghost use Rattle.events.specs.Events.{report_taken, taken};
 
 use device::{Device, Output};
 
 // What reaches the device.
-#[derive(Drop)]
+#[derive(Clone, Copy)]
 pub enum Event {
     // A MIDI byte.
     Byte(u8),

@@ -3,6 +3,7 @@
 // answers to requests of songs, and of a log, go to standard error. What the bytes answer is in crates `listed`,
 // `pitch_lines`, `song_lines`, `log_lines` and `page_lines`. Assumes the contracts of the C library's read and write,
 // and nothing else.
+#![tactic(auto)]
 ghost use Rattle.std.specs.Prelude.{◌≤◌};
 
 use arranging::Written;
@@ -13,7 +14,7 @@ use log_lines::Reading;
 use song::SongAnswer;
 use song_lines::Request;
 
-#[derive(Drop)]
+#[derive(Clone, Copy)]
 enum Program {
     Listing,
     Pitches,
@@ -23,7 +24,7 @@ enum Program {
 }
 
 // What is kept from read to read: which program it is, and what each of them keeps.
-#[derive(Drop)]
+#[derive(Clone, Copy)]
 struct Kept {
     program: Program,
     lister: Lister,
@@ -35,7 +36,7 @@ struct Kept {
 
 // After a turn: whether to go on, whether reading or writing failed or, at the end, a request was refused, and what is
 // kept.
-#[derive(Drop)]
+#[derive(Clone, Copy)]
 struct Turn {
     more: bool,
     failed: bool,
@@ -43,7 +44,7 @@ struct Turn {
 }
 
 // What became of a request of a song: whether it was refused or malformed, and whether writing failed.
-#[derive(Drop)]
+#[derive(Clone, Copy)]
 struct Outcome {
     refused: bool,
     failed: bool,

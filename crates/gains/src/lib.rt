@@ -1,19 +1,20 @@
 // The gains left and right of a channel (R12.1 to R12.10), for every expression, volume and pan: products of f32
 // quotients, each with the bound of its rounding.
 // Assumes nothing.
+#![tactic(auto)]
 ghost use Rattle.std.specs.Prelude.{◌≡◌, ◌≤◌, ◌<◌, ◌+◌, ◌-◌, ◌*◌};
 ghost use Rattle.gains.specs.Gains.{weight, panned, Near, Answered, AnsweredOf};
 
 use channels::Channel;
 
 // What the mixer multiplies a channel by, 0 to 1.
-#[derive(Drop)]
+#[derive(Clone, Copy)]
 pub struct Gains {
     pub left: f32,
     pub right: f32,
 }
 
-#[derive(Drop)]
+#[derive(Clone, Copy)]
 pub enum GainsAnswer {
     // The gains of the channel.
     GainsAre(Gains),

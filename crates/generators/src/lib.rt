@@ -1,5 +1,6 @@
 // The generators: what each is, and how one is assigned (R1.3 to R1.5, R5.11), by value, for every value.
 // Assumes nothing.
+#![tactic(auto)]
 ghost use Rattle.std.specs.Prelude.{◌≡◌};
 ghost use Rattle.generators.specs.Generators.{generator, is_busy, assigned, silent};
 
@@ -26,7 +27,7 @@ pub fn is_busy(state: u8) -> bool
 // idle); and the sounding ones by age. A state above 3, which no operation makes, counts as sounding and as nothing
 // more.
 #[repr(C)]
-#[derive(Drop)]
+#[derive(Clone, Copy)]
 pub struct Generators {
     pub state: [u8; 64],
     pub channel: [u8; 64],

@@ -3,6 +3,7 @@
 // program reads; on standard error an answer a line, number and thefts. The kit's programs end with status 0;
 // `./programs` links one with the status that this call answers. Assumes the contracts of the C library's read and
 // write, and nothing else.
+#![tactic(auto)]
 fn main() {
     filters::hardest_song_status();
 }

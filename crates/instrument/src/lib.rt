@@ -1,5 +1,6 @@
 // The record of the sound module without its parser: what acts on a whole message works on it (R1.10, R1.11). By
 // value, for every value. Assumes nothing.
+#![tactic(auto)]
 ghost use Rattle.std.specs.Prelude.{◌≡◌};
 ghost use Rattle.instrument.specs.Instrument.{fresh_channels, fresh, replaced, channel_of, with_channel};
 ghost use Rattle.instrument.specs.Instrument.{with_kind, with_generators, pedal_down, is_rhythm};
@@ -9,7 +10,7 @@ use generators::Generators;
 use table::Table;
 
 #[repr(C)]
-#[derive(Drop)]
+#[derive(Clone, Copy)]
 pub struct Instrument {
     // P, 1 to 64, and the own device ID, 0 to 126.
     pub polyphony: u8,

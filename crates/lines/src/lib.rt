@@ -1,4 +1,5 @@
 // The lines in which programs list answers (R16.3 to R16.7), put into a page. Assumes nothing.
+#![tactic(auto)]
 ghost use Rattle.std.specs.Prelude.{◌++◌};
 ghost use Rattle.text.specs.Text.{Put};
 ghost use Rattle.lines.specs.Lines.{field, offset_field, dashes, was, note_fields, no_note_fields, line_of};
@@ -8,7 +9,7 @@ use playing::Answer;
 use text::{put, put_number};
 
 // A line's first field.
-#[derive(Drop)]
+#[derive(Clone, Copy)]
 pub enum Offset {
     // The offset of the byte that completed what the line tells, 0 for the first MIDI byte.
     At(u64),

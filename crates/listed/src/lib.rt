@@ -1,5 +1,6 @@
 // What the listing program lists (R16.1 to R16.7): P, the own ID, then MIDI bytes, each of which may put a line into
 // a page, and what the end of the input adds. Reading and writing are in crate `filters`. Assumes nothing.
+#![tactic(auto)]
 ghost use Rattle.std.specs.Prelude.{◌*◌, ◌≤◌, ◌≡◌, length, take};
 ghost use Rattle.text.specs.Text.{Put};
 ghost use Rattle.device.specs.Device.{started};
@@ -12,7 +13,7 @@ use lines::Offset;
 use playing::Answer;
 
 // Which byte comes next.
-#[derive(Drop)]
+#[derive(Clone, Copy)]
 pub enum Awaits {
     // P.
     Polyphony,
@@ -25,7 +26,7 @@ pub enum Awaits {
 }
 
 // What is kept from byte to byte: which byte comes next, the offset of the next MIDI byte, and the device.
-#[derive(Drop)]
+#[derive(Clone, Copy)]
 pub struct Lister {
     pub awaits: Awaits,
     pub at: u64,
@@ -33,7 +34,7 @@ pub struct Lister {
 }
 
 // What is kept after the bytes of a read, and the place in the page behind what they list.
-#[derive(Drop)]
+#[derive(Clone, Copy)]
 pub struct Listed {
     pub lister: Lister,
     pub used: usize,

@@ -1,4 +1,5 @@
 // A line of a song's log (R14.1): which event it says, for every text. Assumes nothing.
+#![tactic(auto)]
 ghost use Rattle.std.specs.Prelude.{◌≡◌, [], ◌∷◌};
 ghost use Rattle.log.specs.Log.{blank, put, text_of, event_of, meaning_of};
 ghost use Rattle.log.specs.Parse.{is_digit, right, event_by, parse};
@@ -9,14 +10,14 @@ use loops::less;
 // The bytes of a line so far, its 0AH included. The first seven are kept and counted: no line of an event is longer
 // than six.
 #[repr(C)]
-#[derive(Drop)]
+#[derive(Clone, Copy)]
 pub struct Line {
     pub count: u8,
     pub bytes: [u8; 7],
 }
 
 // What a line says.
-#[derive(Drop)]
+#[derive(Clone, Copy)]
 pub enum Meaning {
     // An event.
     Says(Event),

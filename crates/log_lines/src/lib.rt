@@ -1,6 +1,7 @@
 // The text of the program `arrange` (R17.4): a line with the order of the channels, sixteen decimal numbers with a
 // comma between each two, and behind it the log; and what the answer is in bytes and in a line. The message is crate
 // `arranging`'s, and reading and writing are the program's. Assumes nothing.
+#![tactic(auto)]
 ghost use Rattle.std.specs.Prelude.{◌+◌, ◌≤◌, ◌≡◌, true, ◌++◌, length, take};
 ghost use Rattle.text.specs.Text.{Put};
 ghost use Rattle.arranging.specs.Run.{begun};
@@ -12,7 +13,7 @@ use fields::{Line, at_most};
 use text::{put, put_number};
 
 // The order's line as far as it is read.
-#[derive(Drop)]
+#[derive(Clone, Copy)]
 pub struct OrderLine {
     // The number that is read.
     pub number: Line,
@@ -23,7 +24,7 @@ pub struct OrderLine {
 }
 
 // An input as far as it is read: before the order's line has ended that line, and behind it the log.
-#[derive(Drop)]
+#[derive(Clone, Copy)]
 pub struct Reading {
     pub ordered: bool,
     pub order: OrderLine,

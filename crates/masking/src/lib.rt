@@ -1,6 +1,7 @@
 // What a new table does to notes: those of newly masked channels are released (R2.8, R2.9), by value, for every
 // value.
 // Assumes nothing.
+#![tactic(auto)]
 ghost use Rattle.std.specs.Prelude.{◌≡◌, ◌&&◌, not, ℕ, ◌<◌, eqb, get_or};
 ghost use Rattle.loops.specs.Cases.{if◌then◌else◌};
 ghost use Rattle.loops.specs.Passes.{up_to, marks_of};

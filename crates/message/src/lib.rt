@@ -1,9 +1,10 @@
 // What a channel message says (R1.12, R6.1, R6.5), for every status and data byte value. Assumes nothing.
+#![tactic(auto)]
 ghost use Rattle.std.specs.Prelude.{◌≡◌};
 ghost use Rattle.message.specs.Message.{decode};
 
 // A complete channel message. A channel is 1 to 16.
-#[derive(Drop)]
+#[derive(Clone, Copy)]
 pub enum Message {
     // Note-on, velocity above 0: channel, key.
     NoteOn(u8, u8),

@@ -1,5 +1,6 @@
 // The judgement of a MIP message (R3.3 to R3.5), by the parser that its F7 found, for every value of it. Assumes
 // nothing.
+#![tactic(auto)]
 ghost use Rattle.std.specs.Prelude.{◌≡◌, ◌≤◌, drop};
 ghost use Rattle.splitter.specs.Split.{body};
 ghost use Rattle.mip.specs.Mip.{pairs, refused, judged_pairs, judged, pushed};
@@ -8,7 +9,7 @@ use splitter::Parser;
 use table::{Entry, Table};
 
 // Whether a MIP message replaces the table.
-#[derive(Drop)]
+#[derive(Clone, Copy)]
 pub enum Verdict {
     // It does.
     Accepted,
@@ -17,7 +18,7 @@ pub enum Verdict {
 }
 
 // The table is the message's if it is accepted, and empty if not.
-#[derive(Drop)]
+#[derive(Clone, Copy)]
 pub struct Judged {
     pub verdict: Verdict,
     pub table: Table,

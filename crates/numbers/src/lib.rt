@@ -1,5 +1,6 @@
 // The answers in plain numbers, as C and Rust have them (include/muntinorris.h), by value, for every answer and every
 // record. Assumes nothing.
+#![tactic(auto)]
 ghost use Rattle.std.specs.Prelude.{◌≡◌};
 ghost use Rattle.loops.specs.Cases.{or_zero};
 ghost use Rattle.queries.specs.Queries.{generator_query, mask_query, share_query, rhythm_query};
@@ -22,7 +23,7 @@ use song::SongAnswer;
 // An answer: what (0 none, 1 done, 2 a note, 3 a number), the number, channel and key, the generator and what it was (0
 // idle, 1 release, 2 stolen). A field without meaning is 0.
 #[repr(C)]
-#[derive(Drop)]
+#[derive(Clone, Copy)]
 pub struct AnswerNumbers {
     pub what: u8,
     pub number: u8,
@@ -34,7 +35,7 @@ pub struct AnswerNumbers {
 
 // A generator, or number 12 and zeros.
 #[repr(C)]
-#[derive(Drop)]
+#[derive(Clone, Copy)]
 pub struct GeneratorNumbers {
     pub number: u8,
     pub state: u8,
@@ -44,7 +45,7 @@ pub struct GeneratorNumbers {
 
 // Whether a channel is masked, 1 or 0, or number 14 and 0.
 #[repr(C)]
-#[derive(Drop)]
+#[derive(Clone, Copy)]
 pub struct MaskNumbers {
     pub number: u8,
     pub masked: u8,
@@ -52,7 +53,7 @@ pub struct MaskNumbers {
 
 // The share of a channel, or number 14 and 0.
 #[repr(C)]
-#[derive(Drop)]
+#[derive(Clone, Copy)]
 pub struct ShareNumbers {
     pub number: u8,
     pub share: u8,
@@ -60,7 +61,7 @@ pub struct ShareNumbers {
 
 // A pitch, its entry times 2 to the power of its octave, or number 21 with 65536 and 0.
 #[repr(C)]
-#[derive(Drop)]
+#[derive(Clone, Copy)]
 pub struct PitchNumbers {
     pub entry: u32,
     pub octave: i8,
@@ -69,7 +70,7 @@ pub struct PitchNumbers {
 
 // The gains of a channel, or number 24 with 0 and 0.
 #[repr(C)]
-#[derive(Drop)]
+#[derive(Clone, Copy)]
 pub struct GainNumbers {
     pub left: f32,
     pub right: f32,
@@ -78,7 +79,7 @@ pub struct GainNumbers {
 
 // The thefts of a song, or number 1 or 25 with 0.
 #[repr(C)]
-#[derive(Drop)]
+#[derive(Clone, Copy)]
 pub struct SongNumbers {
     pub thefts: u32,
     pub number: u8,

@@ -1,9 +1,10 @@
 // An order of the sixteen channels (R14.3), for every list of bytes. Assumes nothing.
+#![tactic(auto)]
 ghost use Rattle.std.specs.Prelude.{◌≡◌, ◌+◌, eqb, length};
 ghost use Rattle.order.specs.Order.{each, times, no_order, order_of};
 
 // All sixteen channels, by falling priority; or none, and zeros.
-#[derive(Drop)]
+#[derive(Clone, Copy)]
 pub struct Order {
     pub whole: bool,
     pub channels: [u8; 16],

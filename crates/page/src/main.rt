@@ -3,6 +3,7 @@
 // page, or at once the number of a refused start in decimal on a line. The kit's programs end with status 0;
 // `./programs` links one with the status that this call answers, 1 for a refused start. Assumes the contracts of the
 // C library's read and write, and nothing else.
+#![tactic(auto)]
 fn main() {
     filters::page_status();
 }

@@ -1,6 +1,7 @@
 // The text of the program `page` (R17.5): the bytes of its input, which are those of the listing program and list
 // nothing here, and at their end the service page of the device, or the number of a start that was refused. The page
 // is crate `service`'s, and reading and writing are the program's. Assumes nothing.
+#![tactic(auto)]
 ghost use Rattle.std.specs.Prelude.{◌≤◌, ◌≡◌, length, take};
 ghost use Rattle.text.specs.Text.{Put};
 ghost use Rattle.listed.specs.Listing.{after_all};

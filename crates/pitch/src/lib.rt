@@ -1,18 +1,19 @@
 // The pitch of a note (R11.1 to R11.5): an octave and an entry of a table of one octave, for every key, sensitivity
 // and bend.
 // Assumes nothing.
+#![tactic(auto)]
 ghost use Rattle.std.specs.Prelude.{◌≡◌, ◌<◌, ◌/◌, ◌%◌};
 ghost use Rattle.std.proofs.Math.IntN.{sub_ℕ};
 ghost use Rattle.pitch.specs.Pitch.{position, entry, pitch_of};
 
 // A pitch: its entry times 2 to the power of its octave.
-#[derive(Drop)]
+#[derive(Clone, Copy)]
 pub struct Pitch {
     pub octave: i8,
     pub entry: u32,
 }
 
-#[derive(Drop)]
+#[derive(Clone, Copy)]
 pub enum PitchAnswer {
     // The pitch of the note.
     Sounds(Pitch),

@@ -1,6 +1,7 @@
 // The text of the filter `pitches`: a call of the pitch of a note a line, `k,s,b` in decimal, read byte by byte, and
 // for each the line `number,octave,entry` of its answer, put into a page. Reading and writing are the program's.
 // Assumes nothing.
+#![tactic(auto)]
 ghost use Rattle.std.specs.Prelude.{◌*◌, ◌≤◌, ◌≡◌, ◌∷◌, length, take};
 ghost use Rattle.text.specs.Text.{Put};
 ghost use Rattle.fields.specs.Line.{after, after_all};
@@ -12,7 +13,7 @@ use pitch::{Pitch, PitchAnswer};
 use text::{put, put_number};
 
 // What is read of a line after the bytes of a read, and the place in the page behind their answers.
-#[derive(Drop)]
+#[derive(Clone, Copy)]
 pub struct Answered {
     pub line: Line,
     pub used: usize,

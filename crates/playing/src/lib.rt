@@ -1,5 +1,6 @@
 // What a complete channel message does to the sound module, and what it answers (R4.11, R4.12), by value, for every
 // value. Assumes nothing.
+#![tactic(auto)]
 ghost use Rattle.std.specs.Prelude.{◌≡◌};
 ghost use Rattle.playing.specs.Playing.{sounded_of, play_note_on, reply_of, replied, played};
 
@@ -9,7 +10,7 @@ use instrument::Instrument;
 use message::Message;
 
 // The answer to a byte or a report.
-#[derive(Drop)]
+#[derive(Clone, Copy)]
 pub enum Answer {
     // None: the byte completed nothing that counts.
     Nothing,
@@ -24,14 +25,14 @@ pub enum Answer {
 }
 
 // An answer, and the record without its parser after it.
-#[derive(Drop)]
+#[derive(Clone, Copy)]
 pub struct Reply {
     pub answer: Answer,
     pub instrument: Instrument,
 }
 
 // The answer to a note-on, and the generators after it.
-#[derive(Drop)]
+#[derive(Clone, Copy)]
 pub struct Sounded {
     pub answer: Answer,
     pub generators: Generators,

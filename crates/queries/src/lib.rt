@@ -1,5 +1,6 @@
 // The queries of the device (R7.3 to R7.7): they change nothing. By value, for every value of the record. Assumes
 // nothing.
+#![tactic(auto)]
 ghost use Rattle.std.specs.Prelude.{◌≡◌};
 ghost use Rattle.queries.specs.Queries.{generator_query, mask_query, share_query, rhythm_query};
 
@@ -7,7 +8,7 @@ use device::Device;
 use shares::Share;
 
 // The answer to a query of a generator.
-#[derive(Drop)]
+#[derive(Clone, Copy)]
 pub enum GeneratorAnswer {
     // Its state, its channel and its key.
     GeneratorIs(u8, u8, u8),
@@ -16,7 +17,7 @@ pub enum GeneratorAnswer {
 }
 
 // The answer to a query of a mask.
-#[derive(Drop)]
+#[derive(Clone, Copy)]
 pub enum MaskAnswer {
     // The channel is masked.
     IsMasked,
@@ -27,7 +28,7 @@ pub enum MaskAnswer {
 }
 
 // The answer to a query of a share.
-#[derive(Drop)]
+#[derive(Clone, Copy)]
 pub enum ShareAnswer {
     // The channel's share, 0 if it is masked.
     ShareIs(u8),

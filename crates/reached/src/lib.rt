@@ -1,2 +1,3 @@
 // What a device can reach: after every start and every list of bytes and reports the numbers of each channel are in
 // MIDI's range. specs/ states it, proofs/ proves it. There is no code here. Assumes nothing.
+#![tactic(auto)]

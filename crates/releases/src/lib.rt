@@ -1,5 +1,6 @@
 // Changes of state: what keys, pedals and a change of kind do to notes (R5.2, R6.2, R6.7, R6.12, R6.16), by value, for
 // every value, in one pass over the generators. Assumes nothing.
+#![tactic(auto)]
 ghost use Rattle.std.specs.Prelude.{◌≡◌, get_or};
 ghost use Rattle.loops.specs.Cases.{if◌then◌else◌};
 ghost use Rattle.loops.specs.Passes.{up_to};
@@ -10,7 +11,7 @@ ghost use Rattle.releases.specs.Selection.{is_one_of, selects};
 use generators::Generators;
 
 // What happens to the notes of a channel.
-#[derive(Drop)]
+#[derive(Clone, Copy)]
 pub enum Change {
     // A new note of this channel and key: the busy generators of the key are released.
     ReleaseNote(u8, u8),
@@ -25,7 +26,7 @@ pub enum Change {
 }
 
 // One key, or every key.
-#[derive(Drop)]
+#[derive(Clone, Copy)]
 enum Keys {
     One(u8),
     Every,
@@ -33,7 +34,7 @@ enum Keys {
 
 // The generators that a change means, by plain numbers, so that a pass asks them of many at once: held ones, sustained
 // ones or both, of a channel and of its keys.
-#[derive(Drop)]
+#[derive(Clone, Copy)]
 struct Selection {
     held: bool,
     sustained: bool,

@@ -1,6 +1,7 @@
 // The service page (R15.1 to R15.7): the state of a device on 17 lines, written into a lent buffer. By value but for
 // the buffer, for every value of the record.
 // Assumes nothing.
+#![tactic(auto)]
 ghost use Rattle.std.specs.Prelude.{◌≡◌, ◌+◌, ◌≤◌, ◌&&◌, ◌++◌, ltb, length, get_or, take, drop};
 ghost use Rattle.loops.specs.Passes.{up_to};
 ghost use Rattle.table.specs.Table.{entries_of};
@@ -15,7 +16,7 @@ use shares::Share;
 use table::Table;
 
 // Where a channel stands in the table.
-#[derive(Drop)]
+#[derive(Clone, Copy)]
 pub enum Standing {
     // Its place in the order, from 1, and its value.
     Listed(u8, u8),
@@ -24,7 +25,7 @@ pub enum Standing {
 }
 
 // The answer to a call for the page.
-#[derive(Drop)]
+#[derive(Clone, Copy)]
 pub enum PageAnswer {
     // The page stands in the buffer's first 323 bytes.
     Written,

@@ -1,5 +1,6 @@
 // Masks and shares: which channels of a table may play among P generators, and how many notes each is sure of (R2.2
 // to R2.5). By value, for every table value and every P. Assumes nothing.
+#![tactic(auto)]
 ghost use Rattle.std.specs.Prelude.{◌≡◌};
 ghost use Rattle.shares.specs.Shares.{share_of, is_masked, is_channel};
 
@@ -7,7 +8,7 @@ use loops::{at_most, less};
 use table::Table;
 
 // What a channel is sure of.
-#[derive(Drop)]
+#[derive(Clone, Copy)]
 pub enum Share {
     // It is unlisted, or its value is above P: it may not play.
     Masked,

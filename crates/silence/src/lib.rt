@@ -1,5 +1,6 @@
 // Generators that fall silent (R5.3, R6.10, R7.1), by value, for every value, in a few passes however many they are.
 // Assumes nothing.
+#![tactic(auto)]
 ghost use Rattle.std.specs.Prelude.{◌≡◌, eqb, get_or};
 ghost use Rattle.loops.specs.Cases.{if◌then◌else◌};
 ghost use Rattle.loops.specs.Passes.{up_to, marks_of};
@@ -9,7 +10,7 @@ ghost use Rattle.silence.specs.Silence.{leaves, silenced};
 use generators::Generators;
 
 // The sounding generators that become idle.
-#[derive(Drop)]
+#[derive(Clone, Copy)]
 pub enum Leaving {
     // One, by its number: the tone generator reported its end.
     One(u8),

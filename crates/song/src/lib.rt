@@ -1,6 +1,7 @@
 // The hardest song of n bytes (R13.3 to R13.6): written into a lent buffer and played on a fresh device while it is
 // written, with its thefts counted. That no song of n bytes makes more is stated and proved in crate `hardest`.
 // Assumes nothing.
+#![tactic(auto)]
 ghost use Rattle.std.specs.Prelude.{◌≡◌, ◌≤◌};
 ghost use Rattle.loops.specs.Cases.{bit};
 ghost use Rattle.allocation.specs.Allocation.{is_stolen};
@@ -12,7 +13,7 @@ use device::Device;
 use playing::Answer;
 
 // What `write_song` answers.
-#[derive(Drop)]
+#[derive(Clone, Copy)]
 pub enum SongAnswer {
     // The song is written; so many of its note-ons stole a generator.
     Thefts(u32),

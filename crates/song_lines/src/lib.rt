@@ -1,6 +1,7 @@
 // The text of the program `hardest_song`: a request a line, `P,n` in decimal, read byte by byte, and for each the line
 // `number,thefts` of its answer, put into a page. The song is crate `song`'s, and reading and writing are the
 // program's. Assumes nothing.
+#![tactic(auto)]
 ghost use Rattle.std.specs.Prelude.{◌≤◌, ◌≡◌, ◌++◌, length, take, drop};
 ghost use Rattle.text.specs.Text.{Put};
 ghost use Rattle.fields.specs.Line.{after};
@@ -13,7 +14,7 @@ use song::SongAnswer;
 use text::{put, put_number};
 
 // What a byte of the input asks for.
-#[derive(Drop)]
+#[derive(Clone, Copy)]
 pub enum Request {
     // Nothing: no line has ended.
     Nothing,
@@ -24,7 +25,7 @@ pub enum Request {
 }
 
 // What is read of a line after a byte, and what the byte asks for.
-#[derive(Drop)]
+#[derive(Clone, Copy)]
 pub struct Step {
     pub line: Line,
     pub request: Request,
@@ -71,7 +72,7 @@ pub fn end(c: Line) -> Request
 }
 
 // What a song became: its answer, and how many bytes of the page standard output gets.
-#[derive(Drop)]
+#[derive(Clone, Copy)]
 pub struct Written {
     pub answer: SongAnswer,
     pub used: usize,

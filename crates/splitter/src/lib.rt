@@ -1,6 +1,7 @@
 // What a byte means: a stream of MIDI bytes split into messages (rules R4.1 to R4.14), by value, for every parser
 // value and every byte.
 // It knows neither the polyphony nor the own ID nor the table. Assumes nothing.
+#![tactic(auto)]
 ghost use Rattle.std.specs.Prelude.{◌≡◌};
 ghost use Rattle.splitter.specs.Split.{begun, quiet, stored, one_data_byte};
 ghost use Rattle.splitter.specs.Split.{at_last, completed, data_byte, ended, split};
@@ -11,7 +12,7 @@ use loops::if_else;
 // swallowed), the number of data bytes since, and these bytes. Of a SysEx the first 37 are kept and counted: a longer
 // one is as wrong at 37 as at any length.
 #[repr(C)]
-#[derive(Drop)]
+#[derive(Clone, Copy)]
 pub struct Parser {
     pub status: u8,
     pub count: u8,
@@ -19,7 +20,7 @@ pub struct Parser {
 }
 
 // What a byte completed.
-#[derive(Drop)]
+#[derive(Clone, Copy)]
 pub enum Completed {
     // Nothing yet, or nothing that counts: a status, a first data byte, a byte of a SysEx, a swallowed or a real_time
     // byte.
@@ -34,7 +35,7 @@ pub enum Completed {
     SysEx,
 }
 
-#[derive(Drop)]
+#[derive(Clone, Copy)]
 pub struct Split {
     pub parser: Parser,
     pub completed: Completed,

@@ -1,5 +1,6 @@
 // Who loses a note (R5.7 to R5.10): the channel to steal from, and the generator that is stolen, for every value of
 // the generators and of the table. Assumes nothing.
+#![tactic(auto)]
 ghost use Rattle.std.specs.Prelude.{◌≡◌, ◌-◌, ◌&&◌, leb, ltb};
 ghost use Rattle.stealing.specs.Stealing.{counted, steal_from, victim};
 
@@ -8,7 +9,7 @@ use generators::Generators;
 use table::{Entry, Table};
 
 // The channel to steal from.
-#[derive(Drop)]
+#[derive(Clone, Copy)]
 enum Loser {
     // The channel of lowest priority among those over their share, the new note counted.
     Channel(u8),

@@ -1,12 +1,13 @@
 // The MIP table: channels by falling priority (R2.1), and the one of a start (R2.6). Who may play by a table, and how
 // much, is in crate shares; a MIP message's table is made in crate mip.
 // By value, for every table value and every P. Assumes nothing.
+#![tactic(auto)]
 ghost use Rattle.std.specs.Prelude.{◌≡◌};
 ghost use Rattle.table.specs.Table.{start_table};
 
 // A channel, 1 to 16, and the polyphony needed by it and all listed before it.
 #[repr(C)]
-#[derive(Drop)]
+#[derive(Clone, Copy)]
 pub struct Entry {
     pub channel: u8,
     pub value: u8,
@@ -14,7 +15,7 @@ pub struct Entry {
 
 // The first `count` entries, by falling priority; the others are 0.
 #[repr(C)]
-#[derive(Drop)]
+#[derive(Clone, Copy)]
 pub struct Table {
     pub count: u8,
     pub entries: [Entry; 16],

@@ -1,5 +1,6 @@
 // What a byte touches of the record, by what it completed: the parser alone, the generators too, or all of it. By
 // value, for the calls over the lent record (`driver`). Assumes nothing.
+#![tactic(auto)]
 ghost use Rattle.std.specs.Prelude.{◌≡◌};
 ghost use Rattle.touched.specs.Touched.{is_quiet, quiet_answer, key_in, key_of, no_key};
 
@@ -34,7 +35,7 @@ pub fn quiet_answer(c: Completed) -> Answer
 }
 
 // The channel and key of a note-on with a velocity above 0; `sounds` is false for anything else.
-#[derive(Drop)]
+#[derive(Clone, Copy)]
 pub struct Key {
     pub sounds: bool,
     pub channel: u8,

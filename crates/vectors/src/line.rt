@@ -2,7 +2,7 @@
 // nothing.
 
 // What the next byte of a line may be.
-#[derive(Drop)]
+#[derive(Clone, Copy)]
 pub(crate) enum Awaits {
     // The line's first byte: a command or the sign of a comment.
     Command,
@@ -19,7 +19,7 @@ pub(crate) enum Awaits {
 }
 
 // A line, as far as it is read.
-#[derive(Drop)]
+#[derive(Clone, Copy)]
 pub(crate) struct Line {
     pub(crate) awaits: Awaits,
     pub(crate) command: u8,
@@ -27,7 +27,7 @@ pub(crate) struct Line {
     pub(crate) numbers: [u8; 64],
 }
 
-#[derive(Drop)]
+#[derive(Clone, Copy)]
 enum Digit {
     // A hexadecimal digit of this value.
     Value(u8),

@@ -32,6 +32,7 @@
 // no answer. Before the first P the device is one with P 1 and own ID 0, and before the first O the log is one of an
 // order of no channels; O, A and E leave the device as it is, and V leaves device and log. Assumes the contracts of the
 // C library's read and write, and nothing else.
+#![tactic(auto)]
 mod answers;
 mod asked;
 mod line;
@@ -55,7 +56,7 @@ use lines::Offset;
 
 // What is kept from byte to byte: the line, the offset of the next MIDI byte, the bytes of the page in use, the device,
 // and the log.
-#[derive(Drop)]
+#[derive(Clone, Copy)]
 struct Bench {
     line: Line,
     at: u64,
@@ -65,7 +66,7 @@ struct Bench {
 }
 
 // After a turn: whether to go on, whether reading or writing failed, and what is kept.
-#[derive(Drop)]
+#[derive(Clone, Copy)]
 struct Turn {
     more: bool,
     failed: bool,
