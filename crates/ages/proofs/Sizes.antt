@@ -9,4 +9,4 @@ use Rattle.ages.specs.declared.Ages.{Ages}
 use Rattle.ages.specs.contracts.Ages as T
 
 pub generator_64 : (a : Ages) {vs : List Val} → Is T.the_row a vs → length a.generator ≡ 64
-generator_64 a g = simp length-map at g.1.1.1.0.1.0.1
+generator_64 a g = g.1.1.1.0.1.0.1

@@ -1,6 +1,7 @@
 // The order of assignment among the sounding generators (R1.6, R1.7): a list of their numbers, the oldest first. A
 // list and no counter, so that no history is too long for it. By value, for every value. Assumes nothing.
 #![tactic(auto)]
+
 ghost use Rattle.std.specs.Prelude.{◌≡◌};
 ghost use Rattle.ages.specs.Ages.{without, pushed, newest};
 
