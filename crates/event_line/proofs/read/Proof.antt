@@ -1,12 +1,12 @@
--- `log::read` meets its contract: a line of four, five or six bytes is read by its digits, and any other is of another
+-- `event_line::read` meets its contract: a line of four, five or six bytes is read by its digits, and any other is of another
 -- form.
 -- Assumes nothing.
 use mathlib.Core.Path.{◌∙◌, ap, sym}
-use Rattle.log.specs.Log.{meaning_of}
-use Rattle.log.proofs.Sizes.{bytes_7, said_4, said_5, said_6, said_else}
+use Rattle.event_line.specs.Log.{meaning_of}
+use Rattle.event_line.proofs.Sizes.{bytes_7, said_4, said_5, said_6, said_else}
 use borrow.Author.Rules.{rules}
-use Rattle.log.proofs.read.Statement.{statement}
-use Rattle.log.proofs.read.Tie as tie
+use Rattle.event_line.proofs.read.Statement.{statement}
+use Rattle.event_line.proofs.read.Tie as tie
 
 returns : tie.Need-returns
 returns c =

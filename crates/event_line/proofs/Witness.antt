@@ -5,7 +5,7 @@ use mathlib.Core.List.{[], ◌∷◌}
 use mathlib.Core.Option.{some, none}
 use Rattle.loops.specs.Passes.{up_to, first_of}
 use Rattle.events.specs.declared.Event.TheVariants.{Byte, Report}
-use Rattle.log.specs.Log.{decimal, line_of, loggable, event_of, lines_from, lines_of}
+use Rattle.event_line.specs.Log.{decimal, line_of, loggable, event_of, lines_from, lines_of}
 
 -- `b,144` and `e,5`
 pub byte_line : line_of (Byte 144) ≡ 98 ∷ 44 ∷ 49 ∷ 52 ∷ 52 ∷ 0x0A ∷ []

@@ -6,9 +6,9 @@ use Rattle.loops.specs.Cases.{if◌then◌else◌}
 use Rattle.loops.specs.Passes.{up_to, first_of}
 use Rattle.events.specs.declared.Event.{Event}
 use Rattle.events.specs.declared.Event.TheVariants.{Byte, Report}
-use Rattle.log.specs.declared.Line.{Line}
-use Rattle.log.specs.declared.Meaning.{Meaning}
-use Rattle.log.specs.declared.Meaning.TheVariants.{Says, Other}
+use Rattle.event_line.specs.declared.Line.{Line}
+use Rattle.event_line.specs.declared.Meaning.{Meaning}
+use Rattle.event_line.specs.declared.Meaning.TheVariants.{Says, Other}
 
 -- a number below 1000 in decimal, with no zero before it; digit 0 is byte 48
 unfoldable pub decimal : ℕ → List ℕ

@@ -8,11 +8,11 @@ use native.Mathlib.Omega.{arith}
 use mir.Val.{Val}
 use denote.Laws.{Is}
 use lib.ListN.{length, take, get_or, length-map, length-take}
-use Rattle.log.specs.declared.Line.{Line}
-use Rattle.log.specs.Log.{event_of}
-use Rattle.log.specs.Parse.{parse}
-use Rattle.log.specs.contracts.Line as T
-use Rattle.log.proofs.Lines.{event_parse}
+use Rattle.event_line.specs.declared.Line.{Line}
+use Rattle.event_line.specs.Log.{event_of}
+use Rattle.event_line.specs.Parse.{parse}
+use Rattle.event_line.specs.contracts.Line as T
+use Rattle.event_line.proofs.Lines.{event_parse}
 
 pub bytes_7 : (l : Line) {vs : List Val} → Is T.the_row l vs → length l.bytes ≡ 7
 bytes_7 l g = simp length-map at g.1.1.1.0.1.0.1

@@ -1,10 +1,10 @@
--- `log::Line::push` meets its contract: below 7 the byte goes to the place of the count, from 7 on nothing changes.
+-- `event_line::Line::push` meets its contract: below 7 the byte goes to the place of the count, from 7 on nothing changes.
 -- Assumes nothing.
 use borrow.Author.Tests.{lt-ltb, le-ltb}
-use Rattle.log.specs.Log.{put}
+use Rattle.event_line.specs.Log.{put}
 use borrow.Author.Rules.{rules}
-use Rattle.log.proofs.Line.push.Statement.{statement}
-use Rattle.log.proofs.Line.push.Tie as tie
+use Rattle.event_line.proofs.Line.push.Statement.{statement}
+use Rattle.event_line.proofs.Line.push.Tie as tie
 
 returns : tie.Need-returns
 unfolding put

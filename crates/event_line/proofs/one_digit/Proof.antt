@@ -1,10 +1,10 @@
--- `log::one_digit` meets its contract: the code tests and adds up what the definition does.
+-- `event_line::one_digit` meets its contract: the code tests and adds up what the definition does.
 -- Assumes nothing.
 use mathlib.Core.Path.{◌∙◌, sym}
-use Rattle.log.specs.Parse.{parse}
+use Rattle.event_line.specs.Parse.{parse}
 use borrow.Author.Rules.{rules}
-use Rattle.log.proofs.one_digit.Statement.{statement}
-use Rattle.log.proofs.one_digit.Tie as tie
+use Rattle.event_line.proofs.one_digit.Statement.{statement}
+use Rattle.event_line.proofs.one_digit.Tie as tie
 
 returns : tie.Need-returns
 unfolding parse

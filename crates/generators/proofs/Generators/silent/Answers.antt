@@ -4,12 +4,8 @@ use mathlib.Core.Path.{refl}
 use Rattle.loops.specs.Passes.{padded}
 use Rattle.ages.specs.Ages.{ages_of}
 use Rattle.generators.specs.Generators.{silent}
-use Rattle.generators.proofs.Generators.silent.Statement.{statement}
-use Rattle.generators.proofs.Generators.silent.Tie as tie
+use Rattle.generators.proofs.Generators.silent.Goals as goal
 
-returns : tie.Need-returns
+pub returns : goal.returns
 unfolding silent ages_of padded
 returns c = refl
-
-pub silent-spec : {M : Type 1} → statement M
-silent-spec = tie.close (tie.spec returns)

@@ -1,13 +1,13 @@
--- `log::event_by` meets its contract: the code's two tests are the definition's.
+-- `event_line::event_by` meets its contract: the code's two tests are the definition's.
 -- Assumes nothing.
 use Prim.Native.Nat.{◌<◌}
 use lib.Dec.{eqb, ltb}
 use borrow.Author.Rules.{rules}
 use borrow.Author.Tests.{ltb-true}
-use Rattle.log.specs.Parse.{event_by}
+use Rattle.event_line.specs.Parse.{event_by}
 use Rattle.loops.proofs.Tests.{and_right}
-use Rattle.log.proofs.event_by.Statement.{statement}
-use Rattle.log.proofs.event_by.Tie as tie
+use Rattle.event_line.proofs.event_by.Statement.{statement}
+use Rattle.event_line.proofs.event_by.Tie as tie
 
 cast-t6 : tie.Need-overflow-cast-t6
 cast-t6 c =

@@ -15,8 +15,8 @@ use Rattle.loops.specs.Passes.{up_to, first_of}
 use Rattle.loops.proofs.Tests.{and_left, and_right, impossible}
 use Rattle.events.specs.declared.Event.{Event}
 use Rattle.events.specs.declared.Event.TheVariants.{Byte, Report}
-use Rattle.log.specs.Log.{decimal, line_of, loggable, same, event_of}
-use Rattle.log.specs.Parse.{is_digit, event_by, right, parse}
+use Rattle.event_line.specs.Log.{decimal, line_of, loggable, same, event_of}
+use Rattle.event_line.specs.Parse.{is_digit, event_by, right, parse}
 
 same_true : (l m : List ℕ) → same l m ≡ true → l ≡ m
 same_true [] [] h = refl
