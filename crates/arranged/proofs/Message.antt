@@ -15,7 +15,7 @@ use Rattle.table.specs.declared.Entry.{Entry}
 use Rattle.device.specs.declared.Device.{Device}
 use Rattle.events.specs.declared.Event.{Event}
 use Rattle.events.specs.Events.{taken}
-use Rattle.log.specs.Log.{event_of, lines_of}
+use Rattle.event_line.specs.Log.{event_of, lines_of}
 use Rattle.order.specs.Order.{is_order}
 use Rattle.order.proofs.Once.{order_holds}
 use Rattle.arranging.specs.declared.Written.{Written}

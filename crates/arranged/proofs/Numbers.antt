@@ -60,8 +60,8 @@ use Rattle.device.specs.Device.{started, heard, byte_taken}
 use Rattle.events.specs.declared.Event.{Event}
 use Rattle.events.specs.declared.Event.TheVariants.{Byte, Report}
 use Rattle.events.specs.Events.{report_taken, taken}
-use Rattle.log.specs.Log.{event_of, lines_of}
-use Rattle.log.proofs.Lines.{Loggable, event_loggable}
+use Rattle.event_line.specs.Log.{event_of, lines_of}
+use Rattle.event_line.proofs.Lines.{Loggable, event_loggable}
 use Rattle.arranging.specs.Arranging.{fresh, after_line, records}
 use Rattle.arranged.specs.Laws.{NoOtherNumber}
 

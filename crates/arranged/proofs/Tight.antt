@@ -11,7 +11,7 @@ use lib.ListN.{length, get_or}
 use Rattle.loops.specs.Cases.{if◌then◌else◌}
 use Rattle.loops.proofs.Fill.{at-up_to}
 use Rattle.device.specs.declared.Device.{Device}
-use Rattle.log.specs.Log.{event_of, lines_of}
+use Rattle.event_line.specs.Log.{event_of, lines_of}
 use Rattle.arranging.specs.Arranging.{largest, joint, fresh, values, after_line, records}
 use Rattle.arranging.proofs.Largest.{larger_left, larger-right}
 use Rattle.arranged.specs.Laws.{record_after}

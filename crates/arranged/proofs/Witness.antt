@@ -15,7 +15,7 @@ use Rattle.device.specs.Device.{byte_taken}
 use Rattle.events.specs.declared.Event.{Event}
 use Rattle.events.specs.declared.Event.TheVariants.{Byte, Report}
 use Rattle.events.specs.Events.{taken}
-use Rattle.log.specs.Log.{event_of, lines_of}
+use Rattle.event_line.specs.Log.{event_of, lines_of}
 use Rattle.arranging.specs.declared.Run.{Run}
 use Rattle.arranging.specs.declared.Written.{Written}
 use Rattle.arranging.specs.Arranging.{fresh, records, joint, values, message}

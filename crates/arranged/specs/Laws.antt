@@ -11,7 +11,7 @@ use Rattle.device.specs.declared.Output.{Output}
 use Rattle.device.specs.Device.{byte_taken}
 use Rattle.events.specs.declared.Event.{Event}
 use Rattle.events.specs.Events.{taken}
-use Rattle.log.specs.Log.{event_of, lines_of}
+use Rattle.event_line.specs.Log.{event_of, lines_of}
 use Rattle.arranging.specs.declared.Run.{Run}
 use Rattle.arranging.specs.Arranging.{fresh, records, joint, values, message}
 use Rattle.arranging.specs.Run.{heard, joined, begun, finished}

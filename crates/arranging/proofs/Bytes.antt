@@ -13,7 +13,7 @@ use lib.ListN.{length, get_or, length-append, get_or-append}
 use lib.Seq.{get_or-append-add, get_or_at}
 use Rattle.table.specs.declared.Entry.{Entry}
 use Rattle.events.specs.declared.Event.{Event}
-use Rattle.log.specs.Log.{meaning_of}
+use Rattle.event_line.specs.Log.{meaning_of}
 use Rattle.arranging.specs.declared.Song.{Song}
 use Rattle.arranging.specs.Run.{meaning_played, played_by}
 use Rattle.arranging.specs.Arranging.{listing, pair_bytes, mip_message}

@@ -21,9 +21,9 @@ use Rattle.loops.proofs.Padded as padded
 use Rattle.device.specs.declared.Device.{Device}
 use Rattle.events.specs.declared.Event.{Event}
 use Rattle.events.specs.Events.{taken}
-use Rattle.log.specs.declared.Line.{Line}
-use Rattle.log.specs.Log.{event_of, lines_from, lines_of, blank, put, text_of}
-use Rattle.log.proofs.Lines.{event_seven, event_unended, has_end}
+use Rattle.event_line.specs.declared.Line.{Line}
+use Rattle.event_line.specs.Log.{event_of, lines_from, lines_of, blank, put, text_of}
+use Rattle.event_line.proofs.Lines.{event_seven, event_unended, has_end}
 use Rattle.arranging.specs.declared.Written.{Written}
 use Rattle.arranging.specs.declared.Song.{Song}
 use Rattle.arranging.specs.declared.Run.{Run}

@@ -28,7 +28,7 @@ use Rattle.events.specs.declared.Event.{Event}
 use Rattle.events.specs.declared.Event.TheVariants.{Byte, Report}
 use Rattle.events.specs.Events.{report_taken, taken}
 use Rattle.reports.specs.Reports.{reported}
-use Rattle.log.specs.Log.{blank, put, decimal, line_of, loggable, event_of, lines_from}
+use Rattle.event_line.specs.Log.{blank, put, decimal, line_of, loggable, event_of, lines_from}
 use Rattle.order.specs.Order.{each, is_order, order_of}
 use Rattle.joint.specs.Joint.{busy_on, raised}
 use Rattle.arranging.specs.Run.{event_played, line_played, byte_heard, heard as part-heard}

@@ -18,7 +18,7 @@ use Rattle.device.specs.Device.{started}
 use Rattle.events.specs.declared.Event.{Event}
 use Rattle.events.specs.declared.Event.TheVariants.{Byte, Report}
 use Rattle.events.specs.Events.{taken}
-use Rattle.log.specs.Log.{event_of, lines_of}
+use Rattle.event_line.specs.Log.{event_of, lines_of}
 use Rattle.order.specs.Order.{is_order}
 use Rattle.joint.specs.Joint.{larger, joint_count}
 use Rattle.arranging.specs.declared.Written.{Written}

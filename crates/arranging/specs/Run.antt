@@ -9,10 +9,10 @@ use Rattle.playing.specs.declared.Answer.TheVariants as answer
 use Rattle.device.specs.declared.Device.{Device}
 use Rattle.events.specs.declared.Event.{Event}
 use Rattle.events.specs.Events.{taken}
-use Rattle.log.specs.declared.Line.{Line}
-use Rattle.log.specs.declared.Meaning.{Meaning}
-use Rattle.log.specs.declared.Meaning.TheVariants.{Says, Other}
-use Rattle.log.specs.Log.{event_of, blank, put, text_of}
+use Rattle.event_line.specs.declared.Line.{Line}
+use Rattle.event_line.specs.declared.Meaning.{Meaning}
+use Rattle.event_line.specs.declared.Meaning.TheVariants.{Says, Other}
+use Rattle.event_line.specs.Log.{event_of, blank, put, text_of}
 use Rattle.order.specs.declared.Order.{Order}
 use Rattle.order.specs.Order.{order_of}
 use Rattle.joint.specs.Joint.{raised}

@@ -6,7 +6,7 @@ ghost use Rattle.std.specs.Prelude.{◌≡◌, ◌&&◌, not, ◌<◌, eqb, get_
 ghost use Rattle.splitter.specs.Split.{body, split};
 ghost use Rattle.sysex.specs.SysEx.{is_mip};
 ghost use Rattle.allocation.specs.Allocation.{is_stolen};
-ghost use Rattle.log.specs.Log.{text_of};
+ghost use Rattle.event_line.specs.Log.{text_of};
 ghost use Rattle.arranging.specs.Arranging.{is_sys_ex, ends_mip, loses_note, listing, mip_message, refused, message};
 ghost use Rattle.arranging.specs.Run.{counted, is_quiet, stopped, event_played, played_by};
 ghost use Rattle.arranging.specs.Run.{line_played, heard, begun_by, begun, ended_by, finished};
@@ -14,7 +14,7 @@ ghost use Rattle.arranging.specs.Run.{line_played, heard, begun_by, begun, ended
 use allocation::Was;
 use device::Device;
 use events::Event;
-use log::{Line, Meaning};
+use event_line::{Line, Meaning};
 use order::Order;
 use playing::Answer;
 use splitter::{Completed, Parser};
@@ -212,7 +212,7 @@ fn play_line(s: Song, l: Line) -> Song
     if has_fallen(s.number) {
         return s;
     }
-    play_meaning(s, log::read(l))
+    play_meaning(s, event_line::read(l))
 }
 
 // ---- the message

@@ -1,6 +1,7 @@
 // The generators: what each is, and how one is assigned (R1.3 to R1.5, R5.11), by value, for every value.
 // Assumes nothing.
 #![tactic(auto)]
+
 ghost use Rattle.std.specs.Prelude.{◌≡◌};
 ghost use Rattle.generators.specs.Generators.{generator, is_busy, assigned, silent};
 

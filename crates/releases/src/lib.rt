@@ -1,6 +1,7 @@
 // Changes of state: what keys, pedals and a change of kind do to notes (R5.2, R6.2, R6.7, R6.12, R6.16), by value, for
 // every value, in one pass over the generators. Assumes nothing.
 #![tactic(auto)]
+
 ghost use Rattle.std.specs.Prelude.{◌≡◌, get_or};
 ghost use Rattle.loops.specs.Cases.{if◌then◌else◌};
 ghost use Rattle.loops.specs.Passes.{up_to};

@@ -22,7 +22,7 @@ use Rattle.generators.specs.declared.Generators.{Generators}
 use Rattle.generators.specs.Generators.{at, is_busy_on}
 use Rattle.candidates.specs.Candidates.{busy_count}
 use Rattle.device.specs.declared.Device.{Device}
-use Rattle.log.specs.Log.{decimal}
+use Rattle.event_line.specs.Log.{decimal}
 use Rattle.service.specs.declared.Standing.{Standing}
 use Rattle.service.specs.declared.Standing.TheVariants.{Listed, Unlisted}
 use Rattle.service.specs.Page.{in_two, in_three, standing_from, place_field, value_field}

@@ -41,7 +41,7 @@ use Rattle.events.specs.Events.{report_taken, taken}
 use Rattle.queries.specs.declared.MaskAnswer.TheVariants.{IsMasked, IsUnmasked}
 use Rattle.queries.specs.declared.ShareAnswer.TheVariants.{ShareIs}
 use Rattle.queries.specs.Queries.{generator_query, mask_query, share_query}
-use Rattle.log.specs.Log.{decimal}
+use Rattle.event_line.specs.Log.{decimal}
 use Rattle.service.specs.Page.{in_two, in_three, standing_from, place_field, value_field}
 use Rattle.service.specs.Page.{head, line, row, rows_to, page_of, page_text}
 use Rattle.note_book.specs.Book.{notes_on}

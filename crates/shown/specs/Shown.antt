@@ -17,7 +17,7 @@ use Rattle.queries.specs.declared.MaskAnswer.TheVariants.{IsMasked, IsUnmasked, 
 use Rattle.queries.specs.declared.ShareAnswer.{ShareAnswer}
 use Rattle.queries.specs.declared.ShareAnswer.TheVariants.{ShareIs, NotAChannel}
 use Rattle.queries.specs.Queries.{generator_query, mask_query, share_query}
-use Rattle.log.specs.Log.{decimal}
+use Rattle.event_line.specs.Log.{decimal}
 use Rattle.service.specs.Page.{in_two, in_three, standing_from, place_field, value_field, page_of, page_text}
 use Rattle.note_book.specs.Book.{Book, notes_on}
 use Rattle.note_book.specs.Claim.{after, Live, begin}

@@ -5,9 +5,9 @@ use mathlib.Core.Path.{◌≡◌}
 use mathlib.Core.List.{List}
 use mir.Val.{Val}
 use denote.Laws.{Is}
-use lib.ListN.{length, length-map}
+use lib.ListN.{length}
 use Rattle.splitter.specs.declared.Parser.{Parser}
 use Rattle.splitter.specs.contracts.Parser as T
 
 pub bytes_37 : (p : Parser) {vs : List Val} → Is T.the_row p vs → length p.bytes ≡ 37
-bytes_37 p g = simp length-map at g.1.1.1.1.0.1.0.1
+bytes_37 p g = g.1.1.1.1.0.1.0.1

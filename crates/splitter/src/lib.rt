@@ -2,6 +2,7 @@
 // value and every byte.
 // It knows neither the polyphony nor the own ID nor the table. Assumes nothing.
 #![tactic(auto)]
+
 ghost use Rattle.std.specs.Prelude.{◌≡◌};
 ghost use Rattle.splitter.specs.Split.{begun, quiet, stored, one_data_byte};
 ghost use Rattle.splitter.specs.Split.{at_last, completed, data_byte, ended, split};

@@ -1,10 +1,10 @@
--- `arranging::play_line` meets its contract: behind a number no line is looked at; else what `log::read` says of the
+-- `arranging::play_line` meets its contract: behind a number no line is looked at; else what `event_line::read` says of the
 -- line is played.
 -- Assumes nothing.
 use mathlib.Core.Path.{sym, ap, ◌∙◌}
 use borrow.Author.Tests.{not-true, not-false}
 use lib.Dec.{eqb}
-use Rattle.log.specs.Log.{event_of, text_of}
+use Rattle.event_line.specs.Log.{event_of, text_of}
 use Rattle.arranging.specs.Run.{played_by, line_played}
 use Rattle.arranging.proofs.Bytes.{by_meaning}
 use borrow.Author.Rules.{rules}

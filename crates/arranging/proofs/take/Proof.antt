@@ -5,8 +5,8 @@ use Prim.Native.Nat.{◌-◌, ◌≤◌}
 use mathlib.Core.Path.{◌≡◌, refl, sym, ap, ◌∙◌}
 use native.Mathlib.Omega.{arith}
 use lib.ListN.{length, drop}
-use Rattle.log.specs.declared.Line.{Line}
-use Rattle.log.specs.Log.{text_of}
+use Rattle.event_line.specs.declared.Line.{Line}
+use Rattle.event_line.specs.Log.{text_of}
 use Rattle.arranging.specs.Run.{line_played, run, heard}
 use Rattle.arranging.proofs.Parts.{heard-line, heard_byte, heard_end}
 use borrow.Author.Rules.{rules}
