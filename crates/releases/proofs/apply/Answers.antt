@@ -1,9 +1,9 @@
 -- `releases::apply` meets its contract: the states are those of the pass, which selects what the change means, and the
 -- rest stays.
 -- Assumes nothing.
+use Rattle.std.specs.Prelude.{if◌then◌else◌}
 use mathlib.Core.Path.{ap}
 use mathlib.Core.Bool.{Bool}
-use Rattle.loops.specs.Cases.{if◌then◌else◌}
 use Rattle.loops.proofs.Fill.{up_to-same}
 use Rattle.generators.specs.Generators.{at}
 use Rattle.releases.specs.Releases.{state_after, with_states, changed}

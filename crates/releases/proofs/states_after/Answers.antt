@@ -1,11 +1,11 @@
 -- `releases::states_after` meets its contract. Invariant: the first i states are those of the rule, the others as they
 -- were.
 -- Assumes nothing.
+use Rattle.std.specs.Prelude.{if◌then◌else◌}
 use mathlib.Core.Path.{refl, ap, ◌∙◌}
 use native.Mathlib.Omega.{arith}
 use mathlib.Core.Bool.{Bool}
 use lib.ListN.{get_or}
-use Rattle.loops.specs.Cases.{if◌then◌else◌}
 use Rattle.loops.specs.Passes.{up_to}
 use Rattle.loops.proofs.Fill.{fill_next, fill_end}
 use Rattle.releases.proofs.states_after.Invariants.{rule}
