@@ -1,8 +1,8 @@
 // Changes of state: what keys, pedals and a change of kind do to notes (R5.2, R6.2, R6.7, R6.12, R6.16), by value, for
 // every value, in one pass over the generators. Assumes nothing.
 #![tactic(auto)]
-ghost use Rattle.std.specs.Prelude.{◌≡◌, get_or};
-ghost use Rattle.loops.specs.Cases.{if◌then◌else◌};
+
+ghost use Rattle.std.specs.Prelude.{◌≡◌, get_or, if◌then◌else◌};
 ghost use Rattle.loops.specs.Passes.{up_to};
 ghost use Rattle.generators.specs.Generators.{Generator, generator};
 ghost use Rattle.releases.specs.Releases.{changes, key_up, state_after, changed};

@@ -1,6 +1,7 @@
 // Text in a page of bytes, in which a program collects its output so that one write carries many lines. A text goes to
 // a place of the page, as far as there is room for it, and the answer is the place behind it. Assumes nothing.
 #![tactic(auto)]
+
 ghost use Rattle.std.specs.Prelude.{◌<◌, ◌≡◌, [], ◌∷◌};
 ghost use Rattle.text.specs.Text.{Put, decimal, hex_digit, blank_at, hexadecimal, hexadecimals};
 

@@ -11,13 +11,11 @@ use lib.Signed.{mag}
 use mir.Syntax.{w8}
 use mir.Val.{to_z, of_z}
 use mir.Facts.{to_z-of_z}
-use borrow.Author.Rules.{rules}
 use borrow.Author.Tests.{lt-ltb, le-ltb}
 use Rattle.pitch.specs.Pitch.{entry, pitch_of, pitch_at}
 use Rattle.pitch.specs.declared.PitchAnswer.TheVariants.{Sounds}
 use Rattle.pitch.proofs.Floor.{octave_of, rest_of}
-use Rattle.pitch.proofs.pitch_of.Statement.{statement}
-use Rattle.pitch.proofs.pitch_of.Tie as tie
+use Rattle.pitch.proofs.pitch_of.Goals as goal
 
 -- an octave is read back from its byte
 read_back : (n : ℕ) → n < 2880 → to_z w8 (of_z w8 (sub_ℕ (n / 192) 2)) ≡ sub_ℕ (n / 192) 2
@@ -32,40 +30,28 @@ made : (z : ℤ) (e n : ℕ) (p : ℤ) → n < 2880 → sub_ℕ n 384 ≡ p → 
 unfolding pitch_at
 made z e n p h q o r = rw (← q, octave_of n, rest_of n, o, r, read_back n h)
 
-returns : tie.Need-returns
+pub returns-then-key-gt127 : goal.returns-then-key-gt127
 unfolding pitch_of
-returns c = simp (lt-ltb _ _ c.if1.true)
+returns-then-key-gt127 c = simp (lt-ltb _ _ c.if-key-gt127.true)
 
-returns-2 : tie.Need-returns-2
+pub returns-then-sensitivity-gt24 : goal.returns-then-sensitivity-gt24
 unfolding pitch_of
-returns-2 c = simp (le-ltb _ _ c.before.if1.false, lt-ltb _ _ c.if2.true)
+returns-then-sensitivity-gt24 c = simp (le-ltb _ _ c.if-key-gt127.false, lt-ltb _ _ c.if-sensitivity-gt24.true)
 
-returns-3 : tie.Need-returns-3
+pub returns-then-bend-gt16383 : goal.returns-then-bend-gt16383
 unfolding pitch_of
-returns-3 c =
-    simp (le-ltb _ _ c.before.before.if1.false, le-ltb _ _ c.before.if2.false, lt-ltb _ _ c.if3.true)
+returns-then-bend-gt16383 c =
+    simp (le-ltb _ _ c.if-key-gt127.false, le-ltb _ _ c.if-sensitivity-gt24.false, lt-ltb _ _ c.if-bend-gt16383.true)
 
-returns-4 : tie.Need-returns-4
+pub returns : goal.returns
 unfolding pitch_of
-returns-4 c =
-    let b = c.before.before in
-    let n : b.raised.result < 2880 = b.raised.ensures.1 in
+returns c =
+    let b = c in
+    let n : b.raised-n.result < 2880 = b.raised-n.ensures.1 in
     simp (
-      le-ltb _ _ b.before.before.before.if1.false,
-      le-ltb _ _ b.before.before.if2.false,
-      le-ltb _ _ b.before.if3.false,
+      le-ltb _ _ b.if-key-gt127.false,
+      le-ltb _ _ b.if-sensitivity-gt24.false,
+      le-ltb _ _ b.if-bend-gt16383.false,
     )
-    (made c.before.octave.result c.entry_at.result b.raised.result _ n
-    b.raised.ensures.0 c.before.octave.ensures c.entry_at.ensures)
-
-pub pitch-of-spec : {M : Type 1} → statement M
-pitch-of-spec =
-    tie.close
-    (tie.spec
-    returns
-    returns-2
-    returns-3
-    (λ c κs. search rules)
-    (λ c κs. search rules)
-    (λ c κs. search rules)
-    returns-4)
+    (made c.octave.result c.entry_at.result b.raised-n.result _ n
+    b.raised-n.ensures.0 c.octave.ensures c.entry_at.ensures)
