@@ -1,6 +1,5 @@
 -- R1.6, R1.7: age, as the order in which the sounding generators were assigned.
-use Rattle.std.specs.Prelude.{ℕ, ◌+◌, Bool, not, List, [], ◌∷◌, ◌++◌, length, get_or, set, take, eqb, ltb}
-use Rattle.loops.specs.Cases.{if◌then◌else◌}
+use Rattle.std.specs.Prelude.{ℕ, ◌+◌, Bool, not, List, [], ◌∷◌, ◌++◌, length, get_or, set, take, eqb, ltb, if◌then◌else◌}
 use Rattle.loops.specs.Passes.{filter_by, padded}
 use Rattle.ages.specs.declared.Ages.{Ages}
 

@@ -1,6 +1,5 @@
 -- A note-on with a velocity above 0: steps 1 to 5, and the assignment.
-use Rattle.std.specs.Prelude.{ℕ, Bool, true, false}
-use Rattle.loops.specs.Cases.{if◌then◌else◌}
+use Rattle.std.specs.Prelude.{ℕ, Bool, true, false, if◌then◌else◌}
 use Rattle.table.specs.declared.Table.{Table}
 use Rattle.shares.specs.Shares.{share_of, is_masked}
 use Rattle.generators.specs.declared.Generators.{Generators}

@@ -2,6 +2,7 @@
 -- where its generator is not one of P; in a log P is 64 throughout, since no event changes it, and a line's generator
 -- is below 64.
 -- Assumes nothing.
+use Rattle.std.specs.Prelude.{if◌then◌else◌}
 use mathlib.Core.Path.{◌≡◌, refl, sym, ◌∙◌}
 use mathlib.Core.Bool.{Bool, true, false, ◌||◌}
 use mathlib.Core.List.{List, [], ◌∷◌, ◌++◌}
@@ -11,7 +12,7 @@ use native.Mathlib.Omega.{arith}
 use borrow.Author.Tests.{lt-leb}
 use lib.Dec.{eqb, leb, ltb}
 use lib.ListN.{length, get_or}
-use Rattle.loops.specs.Cases.{if◌then◌else◌, differ}
+use Rattle.loops.specs.Cases.{differ}
 use Rattle.loops.proofs.Cases.{by_both}
 use Rattle.loops.proofs.Tests.{impossible}
 use Rattle.splitter.specs.declared.Parser.{Parser}

@@ -1,5 +1,6 @@
 -- R14.8: no joint count after a line is above its value, and some line reaches it.
 -- Assumes nothing.
+use Rattle.std.specs.Prelude.{if◌then◌else◌}
 use mathlib.Core.Path.{◌≡◌, refl, ap}
 use mathlib.Core.Bool.{Bool, true, false}
 use mathlib.Core.List.{List, [], ◌∷◌}
@@ -8,7 +9,6 @@ use native.Mathlib.Omega.{arith}
 use borrow.Author.Tests.{ltb-true}
 use lib.Dec.{ltb}
 use lib.ListN.{length, get_or}
-use Rattle.loops.specs.Cases.{if◌then◌else◌}
 use Rattle.loops.proofs.Fill.{at-up_to}
 use Rattle.device.specs.declared.Device.{Device}
 use Rattle.event_line.specs.Log.{event_of, lines_of}

@@ -1,12 +1,12 @@
 -- The larger of two numbers.
 -- Assumes nothing.
+use Rattle.std.specs.Prelude.{if◌then◌else◌}
 use mathlib.Core.Path.{◌≡◌, refl}
 use mathlib.Core.Bool.{Bool, true, false}
 use Prim.Native.Nat.{ℕ, ◌≤◌}
 use native.Mathlib.Omega.{arith}
 use borrow.Author.Tests.{ltb-true, ltb-false, le-ltb}
 use lib.Dec.{ltb}
-use Rattle.loops.specs.Cases.{if◌then◌else◌}
 use Rattle.joint.specs.Joint.{larger}
 
 pub larger_left : (a b : ℕ) → a ≤ larger a b

@@ -2,6 +2,7 @@
 -- the first seven bytes of the line that is not ended. So its end is the message of the whole log, however the log was
 -- cut.
 -- Assumes nothing.
+use Rattle.std.specs.Prelude.{if◌then◌else◌}
 use mathlib.Core.Path.{◌≡◌, refl, sym, ap, ◌∙◌}
 use mathlib.Core.Bool.{Bool, true, false, ◌||◌}
 use mathlib.Core.List.{List, [], ◌∷◌, ◌++◌}
@@ -14,7 +15,6 @@ use borrow.Author.Tests.{ltb-true, ltb-false, ne_eqb, eq-eqb}
 use lib.Dec.{eqb, ltb}
 use lib.ListN.{length, take, drop, set, drop_of_length-le, get_or, replicate, length-append, length-take, length-set}
 use lib.Seq.{drop-cons, take-suc-set, take_all, take-append-le}
-use Rattle.loops.specs.Cases.{if◌then◌else◌}
 use Rattle.loops.specs.Passes.{up_to}
 use Rattle.loops.proofs.Fill.{length-up_to, at-up_to, up_to_list, up_to-same}
 use Rattle.loops.proofs.Padded as padded

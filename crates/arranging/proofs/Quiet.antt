@@ -1,12 +1,13 @@
 -- An event that is answered *none* moves no generator: of what a byte completes, only nothing and a SysEx that is not
 -- for us answer none, and a report never does.
 -- Assumes nothing.
+use Rattle.std.specs.Prelude.{if◌then◌else◌}
 use mathlib.Core.Path.{◌≡◌, refl, ◌∙◌}
 use mathlib.Core.Bool.{Bool, true, false, ◌&&◌}
 use mathlib.Core.List.{List}
 use Prim.Native.Nat.{ℕ}
 use lib.Dec.{leb}
-use Rattle.loops.specs.Cases.{if◌then◌else◌, bit}
+use Rattle.loops.specs.Cases.{bit}
 use Rattle.loops.proofs.Padded as padded
 use Rattle.loops.proofs.Totals.{total_zero, total-same}
 use Rattle.loops.proofs.Tests.{impossible}

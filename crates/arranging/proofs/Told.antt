@@ -1,12 +1,12 @@
 -- A line as it is told: one more of what is told is what is told of one more.
 -- Assumes nothing.
+use Rattle.std.specs.Prelude.{if◌then◌else◌}
 use mathlib.Core.Path.{◌≡◌, refl, sym, ◌∙◌}
 use mathlib.Core.Bool.{Bool, true, false}
 use Prim.Native.Nat.{ℕ, ◌+◌, ◌≤◌, ◌<◌}
 use native.Mathlib.Omega.{arith}
 use borrow.Author.Tests.{ltb-false, le-ltb}
 use lib.Dec.{ltb}
-use Rattle.loops.specs.Cases.{if◌then◌else◌}
 use Rattle.arranging.specs.Arranging.{told}
 use Rattle.arranging.specs.Run.{counted}
 

@@ -1,9 +1,8 @@
 -- R14.10: a log in parts: what is kept between two parts, and what a byte of the log does to it. That any parts come
 -- to `message` of the whole log is proved in proofs/Parts.antt.
 -- Assumes nothing.
-use Rattle.std.specs.Prelude.{ℕ, ◌+◌, Bool, true, false, List, [], ◌∷◌, ◌++◌, eqb, replicate}
+use Rattle.std.specs.Prelude.{ℕ, ◌+◌, Bool, true, false, List, [], ◌∷◌, ◌++◌, eqb, replicate, if◌then◌else◌}
 use Rattle.std.proofs.Math.Option.{Option, some, none}
-use Rattle.loops.specs.Cases.{if◌then◌else◌}
 use Rattle.playing.specs.declared.Answer.{Answer}
 use Rattle.playing.specs.declared.Answer.TheVariants as answer
 use Rattle.device.specs.declared.Device.{Device}

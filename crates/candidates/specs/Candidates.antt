@@ -1,7 +1,7 @@
 -- The generators that a note-on may take, and the counting of a channel's notes.
-use Rattle.std.specs.Prelude.{ℕ, Bool, ◌&&◌, eqb}
+use Rattle.std.specs.Prelude.{ℕ, Bool, ◌&&◌, eqb, if◌then◌else◌}
 use Rattle.std.proofs.Math.Option.{Option, some, none}
-use Rattle.loops.specs.Cases.{if◌then◌else◌, bit, at_most}
+use Rattle.loops.specs.Cases.{bit, at_most}
 use Rattle.loops.specs.Passes.{up_to, total, first_of}
 use Rattle.ages.specs.Ages.{oldest_first}
 use Rattle.generators.specs.declared.Generators.{Generators}

@@ -1,6 +1,5 @@
 -- R1.8: the thirteen numbers of a channel; program change and pitch bend; which bank is that of the drums.
-use Rattle.std.specs.Prelude.{ℕ, Bool, true, false, eqb}
-use Rattle.loops.specs.Cases.{if◌then◌else◌}
+use Rattle.std.specs.Prelude.{ℕ, Bool, true, false, eqb, if◌then◌else◌}
 use Rattle.channels.specs.declared.Channel.{Channel}
 
 -- R1.9: a fresh channel

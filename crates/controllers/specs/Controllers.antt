@@ -1,7 +1,7 @@
 -- Controller n with value v: what it leaves of its channel's numbers (R6.6, R6.8, R6.9, R6.11), and which notes it
 -- ends (R6.7, R6.10 to R6.12).
-use Rattle.std.specs.Prelude.{ℕ, Bool, ◌&&◌, ◌||◌, eqb, ltb, leb}
-use Rattle.loops.specs.Cases.{if◌then◌else◌, at_most}
+use Rattle.std.specs.Prelude.{ℕ, Bool, ◌&&◌, ◌||◌, eqb, ltb, leb, if◌then◌else◌}
+use Rattle.loops.specs.Cases.{at_most}
 use Rattle.channels.specs.declared.Channel.{Channel}
 
 -- R6.9: the sensitivity after controller 6

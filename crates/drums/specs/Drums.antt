@@ -1,6 +1,5 @@
 -- The exclusive groups of a rhythm channel (R5.3, R5.4).
-use Rattle.std.specs.Prelude.{ℕ, ◌+◌, Bool, false, ◌&&◌, ◌||◌, not, List, [], ◌∷◌, eqb}
-use Rattle.loops.specs.Cases.{if◌then◌else◌}
+use Rattle.std.specs.Prelude.{ℕ, ◌+◌, Bool, false, ◌&&◌, ◌||◌, not, List, [], ◌∷◌, eqb, if◌then◌else◌}
 
 -- R5.4: the groups
 abbrev pub groups : List (List ℕ)

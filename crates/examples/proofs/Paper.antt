@@ -1,6 +1,7 @@
 -- P1 to P9 in one proof. The definitions compute to what is written beside them, and where P is a variable (P3, P4)
 -- to the one comparison that P and the value decide.
 -- Assumes nothing.
+use Rattle.std.specs.Prelude.{if◌then◌else◌}
 use mathlib.Core.Path.{◌≡◌, refl, ap, ap₂, ◌∙◌}
 use mathlib.Core.Bool.{Bool, true, false, ◌||◌}
 use mathlib.Core.List.{List, [], ◌∷◌, ◌++◌}
@@ -9,7 +10,6 @@ use Prim.Native.Nat.{ℕ, ◌+◌, ◌-◌, ◌≤◌, ◌<◌}
 use native.Mathlib.Omega.{arith}
 use borrow.Author.Tests.{lt-ltb, le-ltb, le-leb, lt-leb}
 use lib.Dec.{leb}
-use Rattle.loops.specs.Cases.{if◌then◌else◌}
 use Rattle.loops.specs.Passes.{up_to, total, filter_by, first_of, padded}
 use Rattle.splitter.specs.Split.{quiet, begun, stored, one_data_byte, completed}
 use Rattle.splitter.specs.Split.{data_byte, opened, ended, status_byte, split}

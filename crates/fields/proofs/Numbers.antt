@@ -1,5 +1,6 @@
 -- The digits of a number leave the number that they spell, or 99,999,999, and a comma behind them begins the next.
 -- Assumes nothing.
+use Rattle.std.specs.Prelude.{if◌then◌else◌}
 use Prim.Native.Nat.{ℕ, ◌+◌, ◌-◌, ◌*◌, ◌<◌}
 use mathlib.Core.Path.{◌≡◌, refl, ◌∙◌}
 use mathlib.Core.Bool.{Bool, true, false, ◌&&◌}
@@ -7,7 +8,6 @@ use mathlib.Core.List.{List, [], ◌∷◌, ◌++◌}
 use native.Mathlib.Omega.{arith}
 use lib.Dec.{leb, ltb}
 use borrow.Author.Tests.{lt-ltb, le-ltb, ltb-false, leb-true, ne_eqb}
-use Rattle.loops.specs.Cases.{if◌then◌else◌}
 use Rattle.loops.proofs.Tests.{and_left, and_right}
 use Rattle.fields.specs.declared.Line.{Line}
 use Rattle.fields.specs.Line.{kept, is_digit, with_digit, after_digit, after_comma, read}

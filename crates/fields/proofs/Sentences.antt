@@ -1,6 +1,7 @@
 -- What an input is answered, said of lines and their fields (specs/Fields) and not of bytes, whatever the answer of a
 -- line is.
 -- Assumes nothing.
+use Rattle.std.specs.Prelude.{if◌then◌else◌}
 use Prim.Native.Nat.{ℕ, ◌+◌, ◌-◌}
 use mathlib.Core.Path.{◌≡◌, refl, sym, ◌∙◌}
 use mathlib.Core.Bool.{Bool, true, false}
@@ -8,7 +9,7 @@ use mathlib.Core.List.{List, [], ◌∷◌, ◌++◌, append_assoc}
 use native.Mathlib.Omega.{arith}
 use lib.Dec.{eqb, leb}
 use borrow.Author.Tests.{ne_eqb, eqb-true, leb-true}
-use Rattle.loops.specs.Cases.{if◌then◌else◌, bit}
+use Rattle.loops.specs.Cases.{bit}
 use Rattle.loops.specs.Passes.{count}
 use Rattle.fields.specs.declared.Line.{Line}
 use Rattle.fields.specs.Line.{new_line, malformed, is_digit, after_digit, is_parted}

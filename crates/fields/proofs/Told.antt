@@ -2,6 +2,7 @@
 -- malformed, whatever comes behind it. So it is for every program that answers a line of so many numbers by them, one
 -- that is too large as what it is kept as, and any other line by one text.
 -- Assumes nothing.
+use Rattle.std.specs.Prelude.{if◌then◌else◌}
 use Prim.Native.Nat.{ℕ, ◌+◌, ◌-◌, ◌*◌, ◌≤◌, ◌<◌}
 use mathlib.Core.Path.{◌≡◌, refl, ◌∙◌}
 use mathlib.Core.Bool.{Bool, true, false, not, ◌&&◌}
@@ -9,7 +10,6 @@ use mathlib.Core.List.{List, [], ◌∷◌, ◌++◌}
 use native.Mathlib.Omega.{arith}
 use lib.Dec.{ltb, eqb, lit≤}
 use borrow.Author.Tests.{le-ltb, ltb-true, ne_eqb, not-true}
-use Rattle.loops.specs.Cases.{if◌then◌else◌}
 use Rattle.fields.specs.declared.Line.{Line}
 use Rattle.fields.specs.Line.{kept, malformed, is_digit, after_digit, after_comma, read}
 use Rattle.fields.specs.Fields.{is_field, are_fields, behind, number_from, is_number, spelled}

@@ -1,7 +1,6 @@
 -- What the lines of an input are answered, one after another, whatever the answer of a line that has ended is
 -- (`ended`): a program's own crate has that.
-use Rattle.std.specs.Prelude.{ℕ, List, [], ◌∷◌, ◌++◌, eqb}
-use Rattle.loops.specs.Cases.{if◌then◌else◌}
+use Rattle.std.specs.Prelude.{ℕ, List, [], ◌∷◌, ◌++◌, eqb, if◌then◌else◌}
 use Rattle.fields.specs.declared.Line.{Line}
 use Rattle.fields.specs.Line.{new_line, after, after_all, is_empty}
 

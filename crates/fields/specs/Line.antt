@@ -1,7 +1,7 @@
 -- A line of decimal numbers with a comma between each two, byte by byte. All text is ASCII, and every line ends with
 -- byte 0AH.
-use Rattle.std.specs.Prelude.{ℕ, ◌+◌, ◌-◌, ◌*◌, Bool, true, false, not, ◌&&◌, List, [], ◌∷◌, leb, ltb, eqb}
-use Rattle.loops.specs.Cases.{if◌then◌else◌, at_most}
+use Rattle.std.specs.Prelude.{ℕ, ◌+◌, ◌-◌, ◌*◌, Bool, true, false, not, ◌&&◌, List, [], ◌∷◌, leb, ltb, eqb, if◌then◌else◌}
+use Rattle.loops.specs.Cases.{at_most}
 use Rattle.fields.specs.declared.Line.{Line}
 
 -- a line of which nothing is read yet, and one that no byte makes numbers any more

@@ -1,6 +1,7 @@
 // A line of decimal numbers with a comma between each two, read byte by byte: up to three numbers, each of any length.
 // What a line's numbers ask for is in crates `pitch_lines` and `song_lines`. Assumes nothing.
 #![tactic(auto)]
+
 ghost use Rattle.std.specs.Prelude.{◌≤◌, ◌≡◌};
 ghost use Rattle.loops.specs.Cases.{at_most};
 ghost use Rattle.fields.specs.Line.{new_line, read};

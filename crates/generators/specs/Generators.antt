@@ -1,6 +1,5 @@
 -- The generators, by their number g (R1.3 to R1.5).
-use Rattle.std.specs.Prelude.{ℕ, Bool, ◌&&◌, ◌||◌, not, [], get_or, set, replicate, eqb, ltb}
-use Rattle.loops.specs.Cases.{if◌then◌else◌}
+use Rattle.std.specs.Prelude.{ℕ, Bool, ◌&&◌, ◌||◌, not, [], get_or, set, replicate, eqb, ltb, if◌then◌else◌}
 use Rattle.ages.specs.Ages.{ages_of, newest}
 use Rattle.generators.specs.declared.Generators.{Generators}
 

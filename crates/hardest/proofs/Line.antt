@@ -2,6 +2,7 @@
 -- channel 1. The next key isn't among them, for there are at most 64; it takes an idle generator while there is one,
 -- and then the oldest, since no pedal is down.
 -- Assumes nothing.
+use Rattle.std.specs.Prelude.{if◌then◌else◌}
 use mathlib.Core.Path.{◌≡◌, refl, sym, ap, ◌∙◌, subst}
 use mathlib.Core.Bool.{Bool, true, false, not, ◌&&◌, ◌||◌}
 use mathlib.Core.List.{List, [], ◌∷◌, ◌++◌, map}
@@ -11,7 +12,7 @@ use native.Mathlib.Omega.{arith}
 use borrow.Author.Tests.{eqb-true, eqb-false, eq-eqb, ne_eqb, le-leb, lt-leb}
 use lib.Dec.{eqb, leb}
 use lib.ListN.{length, length-append}
-use Rattle.loops.specs.Cases.{if◌then◌else◌, bit}
+use Rattle.loops.specs.Cases.{bit}
 use Rattle.loops.specs.Passes.{total, first_of, filter_by, count}
 use Rattle.loops.proofs.Fill.{up_to_list}
 use Rattle.loops.proofs.Totals.{total_bits}

@@ -1,13 +1,13 @@
 -- Every start leaves a fresh device with P from 1 to 64. So what holds of each of these holds of every start, refused
 -- ones too.
 -- Assumes nothing.
+use Rattle.std.specs.Prelude.{if◌then◌else◌}
 use mathlib.Core.Path.{◌≡◌, refl}
 use mathlib.Core.Bool.{Bool, true, false, ◌||◌}
 use Prim.Native.Nat.{ℕ, ◌≤◌}
 use native.Mathlib.Omega.{arith}
 use borrow.Author.Tests.{ltb-false, le-ltb}
 use lib.Dec.{ltb}
-use Rattle.loops.specs.Cases.{if◌then◌else◌}
 use Rattle.loops.proofs.Tests.{impossible}
 use Rattle.playing.specs.declared.Answer.TheVariants as answer
 use Rattle.device.specs.declared.Device.{Device}

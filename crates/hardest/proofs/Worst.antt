@@ -2,6 +2,7 @@
 -- a theft finds all P generators with a note and takes two away. So thefts wait for P notes, of two bytes each, and the
 -- first of them for a status byte.
 -- Assumes nothing.
+use Rattle.std.specs.Prelude.{if◌then◌else◌}
 use mathlib.Core.Path.{◌≡◌, refl, sym, ◌∙◌}
 use mathlib.Core.Bool.{Bool, true, false}
 use mathlib.Core.List.{List, [], ◌∷◌}
@@ -9,7 +10,7 @@ use Prim.Native.Nat.{ℕ, zero, suc, ◌+◌, ◌≤◌}
 use native.Mathlib.Omega.{arith}
 use lib.Dec.{eqb, leb}
 use lib.ListN.{length}
-use Rattle.loops.specs.Cases.{if◌then◌else◌, differ, bit}
+use Rattle.loops.specs.Cases.{differ, bit}
 use Rattle.loops.specs.Passes.{filter_by}
 use Rattle.loops.proofs.Cases.{by_both}
 use Rattle.loops.proofs.Totals.{total_bits}

@@ -1,7 +1,7 @@
 -- R14.5: the busy generators of a channel and of those before it in the order, and the largest number seen.
 -- Assumes nothing.
-use Rattle.std.specs.Prelude.{ℕ, ◌+◌, Bool, false, ◌&&◌, ◌||◌, List, [], ◌∷◌, eqb, ltb, take, get_or}
-use Rattle.loops.specs.Cases.{if◌then◌else◌, bit}
+use Rattle.std.specs.Prelude.{ℕ, ◌+◌, Bool, false, ◌&&◌, ◌||◌, List, [], ◌∷◌, eqb, ltb, take, get_or, if◌then◌else◌}
+use Rattle.loops.specs.Cases.{bit}
 use Rattle.loops.specs.Passes.{up_to, total}
 use Rattle.generators.specs.declared.Generators.{Generators}
 use Rattle.generators.specs.Generators.{at, is_busy}

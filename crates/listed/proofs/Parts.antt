@@ -1,6 +1,7 @@
 -- However an input is cut into reads, its bytes list the same: what two parts list one after the other is what the
 -- whole lists. And 128 bytes a byte are room for it.
 -- Assumes nothing.
+use Rattle.std.specs.Prelude.{if◌then◌else◌}
 use Prim.Native.Nat.{ℕ, ◌+◌, ◌*◌, ◌≤◌, ◌<◌}
 use mathlib.Core.Path.{◌≡◌, refl, sym, ◌∙◌}
 use mathlib.Core.Bool.{Bool, true, false}
@@ -16,7 +17,6 @@ use Rattle.lines.specs.declared.Offset.TheVariants.{At, Nowhere}
 use Rattle.lines.proofs.Length.{line-length}
 use Rattle.device.specs.declared.Output.{Output}
 use Rattle.device.specs.Device.{started, byte_taken}
-use Rattle.loops.specs.Cases.{if◌then◌else◌}
 use Rattle.listed.specs.declared.Awaits.{Awaits}
 use Rattle.listed.specs.declared.Awaits.TheVariants.{Polyphony, Id, Midi, Refused}
 use Rattle.listed.specs.declared.Lister.{Lister}

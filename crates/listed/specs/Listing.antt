@@ -1,6 +1,5 @@
 -- What an input lists, byte by byte (section 16 of docs/RULES.md).
-use Rattle.std.specs.Prelude.{ℕ, ◌+◌, ◌≡◌, Bool, true, false, List, [], ◌∷◌, ◌++◌, ltb}
-use Rattle.loops.specs.Cases.{if◌then◌else◌}
+use Rattle.std.specs.Prelude.{ℕ, ◌+◌, ◌≡◌, Bool, true, false, List, [], ◌∷◌, ◌++◌, ltb, if◌then◌else◌}
 use Rattle.text.specs.Text.{Put}
 use Rattle.lines.specs.declared.Offset.TheVariants.{At, Nowhere}
 use Rattle.lines.specs.Lines.{line_of}

@@ -1,6 +1,7 @@
 -- An input, in whatever parts it is read, comes to the message of the log behind its first line, by the order that that
 -- line is; and once a number has fallen, what is behind it changes nothing.
 -- Assumes nothing.
+use Rattle.std.specs.Prelude.{if◌then◌else◌}
 use Prim.Native.Nat.{ℕ, ◌+◌, ◌-◌, ◌≤◌, ◌<◌}
 use mathlib.Core.Path.{◌≡◌, refl, sym, ap, ◌∙◌}
 use mathlib.Core.Bool.{Bool, true, false, not}
@@ -11,7 +12,6 @@ use lib.Dec.{eqb}
 use lib.ListN.{length, take, drop, get_or, drop_of_length-le, length-drop}
 use lib.Seq.{drop-cons, take_all}
 use borrow.Author.Tests.{eq-eqb, ne_eqb, not-true}
-use Rattle.loops.specs.Cases.{if◌then◌else◌}
 use Rattle.fields.proofs.Numbers.{both}
 use Rattle.arranging.specs.declared.Run.{Run}
 use Rattle.arranging.specs.Arranging.{message}

@@ -1,6 +1,7 @@
 -- The order's line, field by field: a number is put behind those before it, while there is a place; a field that is no
 -- number, or one too many, leaves a line that no byte makes an order any more.
 -- Assumes nothing.
+use Rattle.std.specs.Prelude.{if◌then◌else◌}
 use Prim.Native.Nat.{ℕ, suc, ◌+◌, ◌-◌, ◌*◌, ◌≤◌, ◌<◌}
 use mathlib.Core.Path.{◌≡◌, refl, sym, ap, ◌∙◌}
 use mathlib.Core.Bool.{Bool, true, false, not, ◌&&◌}
@@ -11,7 +12,7 @@ use lib.Dec.{leb, ltb, eqb}
 use lib.ListN.{length, take, set, length-set}
 use lib.Seq.{take-suc-set}
 use borrow.Author.Tests.{lt-ltb, le-ltb, ltb-true, ltb-false, le-leb, lt-leb, leb-true, ne_eqb, not-true}
-use Rattle.loops.specs.Cases.{if◌then◌else◌, at_most}
+use Rattle.loops.specs.Cases.{at_most}
 use Rattle.fields.specs.Line.{new_line, malformed, kept, is_digit, after_digit, after_comma, read}
 use Rattle.fields.specs.Fields.{is_field, are_fields, number_from, is_number, spelled}
 use Rattle.fields.proofs.Numbers.{both, at, kept_digit}

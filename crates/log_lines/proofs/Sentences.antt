@@ -1,5 +1,6 @@
 -- What an input is answered, said of its lines and their fields and not of bytes one by one.
 -- Assumes nothing.
+use Rattle.std.specs.Prelude.{if◌then◌else◌}
 use Prim.Native.Nat.{ℕ, ◌≤◌, ◌<◌}
 use mathlib.Core.Path.{◌≡◌, refl, sym, ap, ◌∙◌}
 use mathlib.Core.Bool.{Bool, true, false, not, ◌&&◌}
@@ -8,7 +9,6 @@ use native.Mathlib.Omega.{arith}
 use lib.Dec.{ltb, eqb}
 use lib.ListN.{length, length-map}
 use borrow.Author.Tests.{ltb-true, ltb-false, le-leb, lt-leb, not-true}
-use Rattle.loops.specs.Cases.{if◌then◌else◌}
 use Rattle.text.specs.Text.{decimal}
 use Rattle.fields.specs.Fields.{is_field, are_fields, behind, is_number}
 use Rattle.fields.proofs.Numbers.{both}

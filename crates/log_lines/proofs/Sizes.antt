@@ -1,5 +1,6 @@
 -- Each array has the length of its type.
 -- Assumes nothing.
+use Rattle.std.specs.Prelude.{if◌then◌else◌}
 use Prim.Native.Nat.{◌+◌}
 use mathlib.Core.Path.{◌≡◌, refl, ◌∙◌}
 use mathlib.Core.Bool.{Bool, true, false}
@@ -7,7 +8,7 @@ use mathlib.Core.List.{List}
 use mir.Val.{Val}
 use denote.Laws.{Is}
 use lib.ListN.{length, set, length-map, length-set}
-use Rattle.loops.specs.Cases.{if◌then◌else◌, at_most}
+use Rattle.loops.specs.Cases.{at_most}
 use Rattle.fields.specs.Line.{new_line}
 use Rattle.arranging.specs.declared.Written.{Written}
 use Rattle.arranging.specs.contracts.Written as written

@@ -2,8 +2,8 @@
 -- a comma between each two, and behind it the log; on standard output the 38 bytes of the message, nothing beside a
 -- number; on standard error a line `number,line,message`. All text is ASCII, and every line ends with byte 0AH.
 -- Assumes nothing.
-use Rattle.std.specs.Prelude.{ℕ, ◌+◌, Bool, true, false, not, ◌&&◌, List, [], ◌∷◌, ◌++◌, map, leb, ltb, eqb, length, take, set, replicate}
-use Rattle.loops.specs.Cases.{if◌then◌else◌, at_most}
+use Rattle.std.specs.Prelude.{ℕ, ◌+◌, Bool, true, false, not, ◌&&◌, List, [], ◌∷◌, ◌++◌, map, leb, ltb, eqb, length, take, set, replicate, if◌then◌else◌}
+use Rattle.loops.specs.Cases.{at_most}
 use Rattle.text.specs.Text.{decimal, hexadecimals}
 use Rattle.fields.specs.declared.Line.{Line}
 use Rattle.fields.specs.Line.{new_line, read}

@@ -1,6 +1,7 @@
 -- A loop that moves the elements that pass to the front of a blank array: at turn i the array holds those that pass
 -- among the first i, and m is their number.
 -- Assumes nothing.
+use Rattle.std.specs.Prelude.{if◌then◌else◌}
 use mathlib.Core.Path.{◌≡◌}
 use mathlib.Core.Bool.{Bool, true, false}
 use mathlib.Core.List.{List, [], ◌∷◌}
@@ -8,7 +9,7 @@ use Prim.Native.Nat.{ℕ, ◌+◌, ◌≤◌, ◌<◌}
 use native.Mathlib.Omega.{arith}
 use lib.ListN.{length, take, set, get_or, length-append}
 use lib.Seq.{length-take-le}
-use Rattle.loops.specs.Cases.{if◌then◌else◌, bit}
+use Rattle.loops.specs.Cases.{bit}
 use Rattle.loops.specs.Passes.{filter_by, padded}
 use Rattle.loops.proofs.Padded.{padded_push, padded-blank}
 use Rattle.loops.proofs.Search.{filter_yes, filter_no, filter-length}

@@ -1,5 +1,6 @@
 -- A list in an array that has room for more: its elements stand first, and the next one goes to the place after them.
 -- Assumes nothing.
+use Rattle.std.specs.Prelude.{if◌then◌else◌}
 use mathlib.Core.Path.{◌≡◌, refl, sym, ap, ◌∙◌}
 use mathlib.Core.List.{List, [], ◌∷◌, ◌++◌, append_assoc}
 use Prim.Native.Nat.{ℕ, zero, suc, ◌+◌, ◌-◌, ◌≤◌, ◌<◌}
@@ -9,7 +10,7 @@ use borrow.Author.Tests.{ltb-true, ltb-false}
 use lib.Dec.{ltb}
 use lib.Seq.{take-append-add, take-append-le, take_at, set_at, length-take-le, take_all}
 use mathlib.Core.Bool.{Bool, true, false}
-use Rattle.loops.specs.Cases.{if◌then◌else◌, at_most}
+use Rattle.loops.specs.Cases.{at_most}
 use Rattle.loops.specs.Passes.{padded}
 
 module _ {A : Type 0} (z : A) where

@@ -1,6 +1,7 @@
 -- A loop that looks for the first element that passes, or keeps those that pass: at turn i the answer for the rest of
 -- the list is the answer for the whole, or what is kept is what passes among the first i.
 -- Assumes nothing.
+use Rattle.std.specs.Prelude.{if◌then◌else◌}
 use mathlib.Core.Path.{◌≡◌, refl, sym, ap, ◌∙◌}
 use mathlib.Core.Bool.{Bool, true, false, false≢true}
 use mathlib.Core.List.{List, [], ◌∷◌, ◌++◌, append-nil}
@@ -10,7 +11,6 @@ use native.Mathlib.Numerals.{add-one}
 use native.Mathlib.Omega.{arith}
 use lib.ListN.{length, take, drop, get_or, drop_of_length-le}
 use lib.Seq.{drop-cons, take-suc, get_or-take, length-take-le}
-use Rattle.loops.specs.Cases.{if◌then◌else◌}
 use Rattle.loops.specs.Passes.{filter_by, first_of, count}
 
 module _ {A : Type 0} (p : A → Bool) where

@@ -1,11 +1,6 @@
--- A choice by a test, two tests that differ, a test as a number, and a number that may be missing.
-use Rattle.std.specs.Prelude.{Bool, true, false, not, ◌&&◌, ◌||◌, ℕ, ltb}
+-- Two tests that differ, a test as a number, and a number that may be missing.
+use Rattle.std.specs.Prelude.{Bool, true, false, not, ◌&&◌, ◌||◌, ℕ, ltb, if◌then◌else◌, if◌then◌else◌}
 use Rattle.std.proofs.Math.Option.{Option, some, none}
-
-infix 10 if◌then◌else◌
-abbrev pub if◌then◌else◌ : {A : Type 0} → Bool → A → A → A
-if◌then◌else◌ true a b = a
-if◌then◌else◌ false a b = b
 
 abbrev pub differ : Bool → Bool → Bool
 differ a b = a && not b || not a && b

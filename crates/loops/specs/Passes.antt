@@ -1,7 +1,7 @@
 -- One pass over a list, in each way that the code goes over one.
-use Rattle.std.specs.Prelude.{ℕ, zero, suc, ◌+◌, Bool, List, [], ◌∷◌, ◌++◌, take, replicate}
+use Rattle.std.specs.Prelude.{ℕ, zero, suc, ◌+◌, Bool, List, [], ◌∷◌, ◌++◌, take, replicate, if◌then◌else◌}
 use Rattle.std.proofs.Math.Option.{Option, some, none}
-use Rattle.loops.specs.Cases.{if◌then◌else◌, bit}
+use Rattle.loops.specs.Cases.{bit}
 
 -- f 0, f 1, .. f (n - 1): an array made by a rule
 unfoldable pub up_to : {A : Type 0} → (ℕ → A) → ℕ → List A

@@ -1,8 +1,9 @@
 // Ways of going over an array, as definitions (specs/) with one law for each (proofs/): what every loop of this
 // repository is proved by; and the small choices that loop bodies make without a branch. Assumes nothing.
 #![tactic(auto)]
-ghost use Rattle.std.specs.Prelude.{◌≡◌, ◌≤◌, ◌<◌, ◌-◌, get_or};
-ghost use Rattle.loops.specs.Cases.{if◌then◌else◌, bit, at_most};
+
+ghost use Rattle.std.specs.Prelude.{◌≡◌, ◌≤◌, ◌<◌, ◌-◌, get_or, if◌then◌else◌};
+ghost use Rattle.loops.specs.Cases.{bit, at_most};
 
 pub fn if_else(c: bool, a: u8, b: u8) -> u8
     ensures { result ≡ (if c then a else b) }

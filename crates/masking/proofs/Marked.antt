@@ -1,5 +1,6 @@
 -- The mark of a channel says whether it is newly masked; what is no channel has no mark.
 -- Assumes nothing.
+use Rattle.std.specs.Prelude.{if◌then◌else◌}
 use mathlib.Core.Path.{◌≡◌, ap}
 use mathlib.Core.Bool.{false, ◌&&◌, not, and-false}
 use mathlib.Core.List.{List}
@@ -8,7 +9,6 @@ use native.Mathlib.Omega.{arith}
 use borrow.Author.Tests.{lt-leb}
 use lib.Dec.{eqb, leb}
 use lib.ListN.{get_or}
-use Rattle.loops.specs.Cases.{if◌then◌else◌}
 use Rattle.loops.specs.Passes.{up_to, marks_of}
 use Rattle.loops.proofs.Fill.{up_to-same}
 use Rattle.loops.proofs.Marks.{a_mark}

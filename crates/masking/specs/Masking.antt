@@ -1,6 +1,5 @@
 -- R2.8: what is busy on a channel that the new table masks, and the old one did not, is released; R2.9: all else stays.
-use Rattle.std.specs.Prelude.{ℕ, Bool, ◌&&◌, not}
-use Rattle.loops.specs.Cases.{if◌then◌else◌}
+use Rattle.std.specs.Prelude.{ℕ, Bool, ◌&&◌, not, if◌then◌else◌}
 use Rattle.loops.specs.Passes.{up_to}
 use Rattle.table.specs.declared.Table.{Table}
 use Rattle.shares.specs.Shares.{share_of, is_masked, is_channel}

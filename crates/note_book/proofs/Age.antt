@@ -2,13 +2,14 @@
 -- named, each at its last one, with those that no longer sound left out. Only a note-on's assignment puts a generator
 -- last, and its answer names that generator.
 -- Assumes nothing.
+use Rattle.std.specs.Prelude.{if◌then◌else◌}
 use mathlib.Core.Path.{refl, sym, subst}
 use mathlib.Core.Bool.{Bool, true, false}
 use mathlib.Core.List.{List, [], ◌∷◌}
 use Prim.Native.Nat.{ℕ}
 use lib.Dec.{eqb, leb}
 use Rattle.channels.specs.Channel.{with_program, rhythm_by}
-use Rattle.loops.specs.Cases.{if◌then◌else◌, differ}
+use Rattle.loops.specs.Cases.{differ}
 use Rattle.loops.proofs.Cases.{by_both}
 use Rattle.message.specs.declared.Message.TheVariants.{NoteOn, NoteOff, Control, Program, Bend, Other}
 use Rattle.table.specs.declared.Table.{Table}

@@ -1,6 +1,7 @@
 -- Bytes and reports make a lawful system. Bytes enter by one lemma: the device's parser and the book's splitter are
 -- the same, so the book hears the message that the device obeys.
 -- Assumes nothing.
+use Rattle.std.specs.Prelude.{if◌then◌else◌}
 use mathlib.Core.Path.{◌≡◌, refl, sym, ap, subst}
 use mathlib.Core.Bool.{Bool, true, false, ◌||◌}
 use mathlib.Core.List.{List, []}
@@ -9,7 +10,6 @@ use native.Mathlib.Omega.{arith}
 use borrow.Author.Tests.{ltb-false}
 use lib.Dec.{eqb, ltb}
 use lib.ListN.{drop}
-use Rattle.loops.specs.Cases.{if◌then◌else◌}
 use Rattle.loops.proofs.Cases.{by_both}
 use Rattle.loops.proofs.Tests.{or_right}
 use Rattle.splitter.specs.declared.Parser.{Parser}

@@ -1,6 +1,7 @@
 -- Steps 4 and 5 behind one law: what the choice can be, said of the notes. Which generator of the chosen channel is
 -- stolen is said of the notes and of the order of age: the first one on the pedal, else the first one down.
 -- Assumes nothing.
+use Rattle.std.specs.Prelude.{if◌then◌else◌}
 use mathlib.Core.Path.{◌≡◌, refl, sym, ap, ◌∙◌, subst}
 use mathlib.Core.Bool.{Bool, true, false, ◌&&◌, true≢false, false≢true}
 use mathlib.Core.List.{List, [], ◌∷◌, ◌++◌}
@@ -9,7 +10,7 @@ use Prim.Native.Nat.{ℕ, zero, suc, ◌+◌, ◌≤◌, ◌<◌}
 use native.Mathlib.Omega.{arith}
 use borrow.Author.Tests.{ltb-true, ltb-false, eqb-true, eqb-false, eq-eqb}
 use lib.Dec.{eqb, ltb}
-use Rattle.loops.specs.Cases.{if◌then◌else◌, bit, at_most}
+use Rattle.loops.specs.Cases.{bit, at_most}
 use Rattle.loops.specs.Passes.{up_to, total, first_of, count}
 use Rattle.loops.proofs.Totals.{total-same}
 use Rattle.loops.proofs.Occurs.{occurs, occurs_snoc}

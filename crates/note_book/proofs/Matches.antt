@@ -2,6 +2,7 @@
 -- stands on a masked channel. Here: what a change of the generators alone asks for, and the law of note-on, with what
 -- it can answer said of the book only. All that follows goes by cases on that.
 -- Assumes nothing.
+use Rattle.std.specs.Prelude.{if◌then◌else◌}
 use mathlib.Core.Path.{◌≡◌, refl, sym, ap, ap₂, ◌∙◌, subst}
 use mathlib.Core.Bool.{Bool, true, false, ◌&&◌, ◌||◌, false≢true}
 use mathlib.Core.List.{List, [], ◌∷◌, ◌++◌}
@@ -11,7 +12,6 @@ use native.Mathlib.Omega.{arith}
 use borrow.Author.Tests.{not-false, ltb-true, ltb-false}
 use lib.Dec.{eqb, ltb}
 use lib.ListN.{length}
-use Rattle.loops.specs.Cases.{if◌then◌else◌}
 use Rattle.loops.specs.Passes.{filter_by}
 use Rattle.loops.proofs.Tests.{and_left, and_right}
 use Rattle.table.specs.declared.Entry.{Entry}

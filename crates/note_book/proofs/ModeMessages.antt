@@ -3,12 +3,12 @@
 -- (`none_hangs`; at work in `chord_gone`). The first is computed for each of the four numbers, the others for each kind
 -- of slot.
 -- Assumes nothing.
+use Rattle.std.specs.Prelude.{if◌then◌else◌}
 use mathlib.Core.Path.{◌≡◌, refl, sym, ap, ◌∙◌}
 use mathlib.Core.Bool.{Bool, true, false, ◌&&◌, not, false≢true}
 use Prim.Native.Nat.{ℕ, ◌+◌, ◌≤◌}
 use native.Mathlib.Omega.{arith}
 use lib.Dec.{eqb}
-use Rattle.loops.specs.Cases.{if◌then◌else◌}
 use Rattle.message.specs.declared.Message.TheVariants.{Control}
 use Rattle.other_messages.proofs.ModeMessages.{by_mode}
 use Rattle.playing.specs.declared.Answer.{Answer}

@@ -2,6 +2,7 @@
 -- note more, since the shares come to at most P. Sums go over the list of shares, q; a channel's number there is n of
 -- it.
 -- Assumes nothing.
+use Rattle.std.specs.Prelude.{if◌then◌else◌}
 use mathlib.Core.Path.{◌≡◌, refl, sym, ap, ◌∙◌}
 use mathlib.Core.Bool.{Bool, true, false, ◌||◌, true≢false, false≢true}
 use mathlib.Core.List.{List, [], ◌∷◌}
@@ -10,7 +11,7 @@ use Prim.Native.Nat.{ℕ, zero, suc, ◌+◌, ◌≤◌, ◌<◌}
 use native.Mathlib.Omega.{arith}
 use borrow.Author.Tests.{ltb-true, ltb-false, eqb-true, eqb-false, eq-eqb, ne_eqb}
 use lib.Dec.{eqb, ltb}
-use Rattle.loops.specs.Cases.{if◌then◌else◌, bit}
+use Rattle.loops.specs.Cases.{bit}
 use Rattle.loops.specs.Passes.{total}
 use Rattle.table.specs.declared.Entry.{Entry}
 use Rattle.table.specs.Laws.{Distinct}

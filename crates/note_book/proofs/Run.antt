@@ -2,6 +2,7 @@
 -- reports (`Lawful`). In a run the channel that keeps within its share goes on doing so: only its own note-ons add to
 -- its notes, and each is counted before it is answered.
 -- Assumes nothing.
+use Rattle.std.specs.Prelude.{if◌then◌else◌}
 use mathlib.Core.Path.{◌≡◌, refl, sym, ap, ◌∙◌, subst}
 use mathlib.Core.Bool.{Bool, true, false, not, false≢true}
 use mathlib.Core.List.{List, [], ◌∷◌}
@@ -9,7 +10,7 @@ use Prim.Native.Nat.{ℕ, zero, suc, ◌+◌, ◌≤◌}
 use native.Mathlib.Omega.{arith}
 use borrow.Author.Tests.{eqb-true, eq-eqb, ne_eqb}
 use lib.Dec.{eqb}
-use Rattle.loops.specs.Cases.{if◌then◌else◌, differ, bit}
+use Rattle.loops.specs.Cases.{differ, bit}
 use Rattle.loops.specs.Passes.{total}
 use Rattle.loops.proofs.Cases.{by_both}
 use Rattle.loops.proofs.Totals.{total-same, total_le}

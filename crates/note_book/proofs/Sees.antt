@@ -1,12 +1,12 @@
 -- The notes of the book are what can be seen of the generators: what an act does to a generator, the book does to its
 -- slot.
 -- Assumes nothing.
+use Rattle.std.specs.Prelude.{if◌then◌else◌}
 use mathlib.Core.Path.{◌≡◌, refl, sym, ap, ◌∙◌}
 use mathlib.Core.Bool.{Bool, true, false, not, ◌&&◌, ◌||◌}
 use Prim.Native.Nat.{ℕ, ◌<◌}
 use borrow.Author.Tests.{eqb-true}
 use lib.Dec.{eqb}
-use Rattle.loops.specs.Cases.{if◌then◌else◌}
 use Rattle.drums.specs.Drums.{excludes}
 use Rattle.generators.specs.declared.Generators.{Generators}
 use Rattle.generators.specs.Generators.{Generator, generator, at, is_busy, is_sounding, is_idle, assigned, silent}

@@ -1,6 +1,7 @@
 -- The invariant through every other message, through a new table, a reset and a report: what the sound module does,
 -- the book does.
 -- Assumes nothing.
+use Rattle.std.specs.Prelude.{if◌then◌else◌}
 use mathlib.Core.Path.{◌≡◌, refl, sym, ap, ap₂, ◌∙◌, subst}
 use mathlib.Core.Bool.{Bool, true, false, not, ◌&&◌, ◌||◌, false≢true}
 use mathlib.Core.List.{List, [], ◌∷◌}
@@ -10,7 +11,7 @@ use borrow.Author.Tests.{eqb-true, eqb-false, eq-eqb, ne_eqb, le-leb, ltb-true, 
 use lib.Dec.{eqb, leb, ltb}
 use lib.ListN.{get_or, set, replicate, length-set, get_or-replicate, get_or-eq_default}
 use lib.Seq.{get_or-set_same, get_or-set_other}
-use Rattle.loops.specs.Cases.{if◌then◌else◌, differ, bit}
+use Rattle.loops.specs.Cases.{differ, bit}
 use Rattle.loops.proofs.Tests.{and_left}
 use Rattle.message.specs.declared.Message.{Message}
 use Rattle.message.specs.declared.Message.TheVariants.{NoteOn, NoteOff, Control, Program, Bend, Other}

@@ -1,7 +1,7 @@
 -- The note book (section 9 of docs/RULES.md). R9.1: it is kept from messages, reports and answers; nothing that it is
 -- made of looks at the device's record.
-use Rattle.std.specs.Prelude.{ℕ, ◌+◌, Bool, true, false, not, ◌&&◌, ◌||◌, List, map, eqb, leb, drop}
-use Rattle.loops.specs.Cases.{if◌then◌else◌, differ, bit}
+use Rattle.std.specs.Prelude.{ℕ, ◌+◌, Bool, true, false, not, ◌&&◌, ◌||◌, List, map, eqb, leb, drop, if◌then◌else◌}
+use Rattle.loops.specs.Cases.{differ, bit}
 use Rattle.loops.specs.Passes.{total}
 use Rattle.splitter.specs.declared.Parser.{Parser}
 use Rattle.splitter.specs.declared.Completed.{Completed}

@@ -1,7 +1,6 @@
 -- R14.3, R8.16: an order of the channels is all sixteen, each once.
 -- Assumes nothing.
-use Rattle.std.specs.Prelude.{ℕ, zero, suc, ◌+◌, Bool, true, false, ◌&&◌, List, eqb, length, replicate}
-use Rattle.loops.specs.Cases.{if◌then◌else◌}
+use Rattle.std.specs.Prelude.{ℕ, zero, suc, ◌+◌, Bool, true, false, ◌&&◌, List, eqb, length, replicate, if◌then◌else◌}
 use Rattle.loops.specs.Passes.{count}
 use Rattle.order.specs.declared.Order.{Order}
 

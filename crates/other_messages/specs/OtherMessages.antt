@@ -1,6 +1,6 @@
 -- What a note-off, a controller and a program change do to the sound module. R6.14: no mask is asked.
-use Rattle.std.specs.Prelude.{ℕ, Bool, ◌&&◌, not, eqb}
-use Rattle.loops.specs.Cases.{if◌then◌else◌, differ}
+use Rattle.std.specs.Prelude.{ℕ, Bool, ◌&&◌, not, eqb, if◌then◌else◌}
+use Rattle.loops.specs.Cases.{differ}
 use Rattle.channels.specs.Channel.{with_program, rhythm_by}
 use Rattle.controllers.specs.Controllers.{controlled, lifts_pedal, silences_all, ends_all}
 use Rattle.generators.specs.declared.Generators.{Generators}

@@ -1,5 +1,6 @@
 -- 323 bytes are room for what is answered: the page has so many, and the line of a number at most four.
 -- Assumes nothing.
+use Rattle.std.specs.Prelude.{if◌then◌else◌}
 use Prim.Native.Nat.{ℕ, ◌≤◌, ◌<◌}
 use mathlib.Core.Path.{◌≡◌, refl}
 use mathlib.Core.Bool.{Bool, true, false}
@@ -9,7 +10,6 @@ use borrow.Author.Tests.{le-ltb}
 use lib.Dec.{ltb}
 use lib.ListN.{length, take, drop, length-append}
 use lib.Seq.{take_at}
-use Rattle.loops.specs.Cases.{if◌then◌else◌}
 use Rattle.text.specs.Text.{Put, decimal}
 use Rattle.text.proofs.Joined.{whole}
 use Rattle.fields.proofs.Written.{decimal-length}

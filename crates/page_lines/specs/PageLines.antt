@@ -2,8 +2,7 @@
 -- the device's service page. A refused start has no page: its number in decimal is then the answer, on a line that
 -- ends with byte 0AH.
 -- Assumes nothing.
-use Rattle.std.specs.Prelude.{ℕ, ◌≡◌, List, [], ◌∷◌, ◌++◌, ltb, length}
-use Rattle.loops.specs.Cases.{if◌then◌else◌}
+use Rattle.std.specs.Prelude.{ℕ, ◌≡◌, List, [], ◌∷◌, ◌++◌, ltb, length, if◌then◌else◌}
 use Rattle.text.specs.Text.{Put, decimal}
 use Rattle.device.specs.declared.Device.{Device}
 use Rattle.listed.specs.declared.Awaits.{Awaits}

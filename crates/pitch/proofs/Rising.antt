@@ -3,6 +3,7 @@
 -- since each entry is from 65536 on and below twice that. The fractions are then compared crosswise. Last, the octaves
 -- of the positions that calls give.
 -- Assumes nothing.
+use Rattle.std.specs.Prelude.{if◌then◌else◌}
 use mathlib.Core.Path.{◌≡◌, refl, sym, ap, subst}
 use mathlib.Core.Bool.{Bool, true, false, true≢false, cond, ◌||◌}
 use Prim.Native.Nat.{ℕ, zero, suc, ◌+◌, ◌-◌, ◌*◌, ◌/◌, ◌%◌, ◌^◌, ◌≤◌, ◌<◌}
@@ -16,7 +17,6 @@ use lib.IntN.{pos, negsuc, sub_ℕ}
 use lib.Pow.{pow_pos, pow_mono}
 use lib.Signed.{lt_z, ◌≤ℤ◌, ◌<ℤ◌, le_z_yes}
 use borrow.Author.Tests.{ltb-true, ltb-false, le-ltb, eqb-true, eqb-false}
-use Rattle.loops.specs.Cases.{if◌then◌else◌}
 use Rattle.pitch.specs.declared.Pitch.{Pitch}
 use Rattle.pitch.specs.declared.PitchAnswer.TheVariants.{Sounds, OutOfRange}
 use Rattle.pitch.specs.Pitch.{position, entry, pitch_at, is_out, pitch_of, pitch_in, Lower}

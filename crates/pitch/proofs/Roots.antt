@@ -1,6 +1,7 @@
 -- The table of one octave follows its rule, and rises: one test of each of the 192 numbers, which the checker computes
 -- in one sweep. Whatever is asked of an entry is then read off the test at its place; no power is computed again.
 -- Assumes nothing.
+use Rattle.std.specs.Prelude.{if◌then◌else◌}
 use mathlib.Core.Path.{◌≡◌, refl, sym, ap, ◌∙◌, subst}
 use mathlib.Core.Bool.{Bool, true, false}
 use mathlib.Core.List.{List, [], ◌∷◌}
@@ -11,7 +12,6 @@ use native.Mathlib.Omega.{arith}
 use lib.Dec.{T, eqb, leb, ltb, leb→le, ltb→lt, eqb→eq}
 use lib.ListN.{get_or, take, drop}
 use borrow.Author.Tests.{ltb-true, ltb-false, lt-ltb, le-leb, lt-leb, eqb-true, eqb-false}
-use Rattle.loops.specs.Cases.{if◌then◌else◌}
 use Rattle.loops.proofs.Sweep.{at, both, both_left, both_right}
 use Rattle.pitch.specs.Pitch.{largest, entry}
 

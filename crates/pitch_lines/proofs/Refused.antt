@@ -1,12 +1,13 @@
 -- A number of a call that is above all that are accepted may be cut to one that is refused too: the answer stays.
 -- Assumes nothing.
+use Rattle.std.specs.Prelude.{if◌then◌else◌}
 use Prim.Native.Nat.{ℕ, ◌<◌}
 use mathlib.Core.Path.{◌≡◌, refl, sym, ◌∙◌}
 use mathlib.Core.Bool.{Bool, true, false, ◌||◌}
 use native.Mathlib.Omega.{arith}
 use lib.Dec.{ltb}
 use borrow.Author.Tests.{lt-ltb, ltb-false}
-use Rattle.loops.specs.Cases.{if◌then◌else◌, at_most}
+use Rattle.loops.specs.Cases.{at_most}
 use Rattle.pitch.specs.declared.PitchAnswer.TheVariants.{Sounds, OutOfRange}
 use Rattle.pitch.specs.Pitch.{position, pitch_at, pitch_of}
 

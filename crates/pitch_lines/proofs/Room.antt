@@ -1,6 +1,7 @@
 -- An answer's line has at most 13 bytes: a number and an octave of two, an entry of six, and its commas and its end. So
 -- 16 bytes a byte of input are room.
 -- Assumes nothing.
+use Rattle.std.specs.Prelude.{if◌then◌else◌}
 use Prim.Native.Nat.{ℕ, suc, ◌*◌, ◌≤◌, ◌<◌}
 use mathlib.Core.Bool.{Bool, true, false}
 use mathlib.Core.List.{List, [], ◌∷◌}
@@ -9,7 +10,7 @@ use lib.Dec.{eqb, leb→le}
 use lib.IntN.{ℤ, pos, negsuc}
 use lib.Signed.{◌≤ℤ◌}
 use lib.ListN.{length, length-append}
-use Rattle.loops.specs.Cases.{if◌then◌else◌, or_zero}
+use Rattle.loops.specs.Cases.{or_zero}
 use Rattle.text.specs.Text.{decimal}
 use Rattle.pitch.specs.declared.PitchAnswer.{PitchAnswer}
 use Rattle.pitch.specs.declared.PitchAnswer.TheVariants.{Sounds, OutOfRange}

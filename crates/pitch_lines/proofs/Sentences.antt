@@ -1,13 +1,14 @@
 -- What an input is answered, said of lines and their fields (specs/Fields) and not of bytes: the laws of crate `fields`
 -- for this filter's answer of a line.
 -- Assumes nothing.
+use Rattle.std.specs.Prelude.{if◌then◌else◌}
 use Prim.Native.Nat.{ℕ, suc, ◌^◌, ◌<◌}
 use mathlib.Core.Path.{◌≡◌, refl, ◌∙◌}
 use mathlib.Core.Bool.{Bool, true, false, ◌&&◌}
 use mathlib.Core.List.{List, [], ◌∷◌, ◌++◌}
 use lib.Dec.{eqb, lit<}
 use lib.IntN.{ℤ, pos, negsuc}
-use Rattle.loops.specs.Cases.{if◌then◌else◌, or_zero}
+use Rattle.loops.specs.Cases.{or_zero}
 use Rattle.loops.specs.Passes.{count}
 use Rattle.text.specs.Text.{decimal_within, decimal}
 use Rattle.fields.specs.declared.Line.{Line}

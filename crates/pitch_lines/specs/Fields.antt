@@ -1,7 +1,6 @@
 -- A line by its fields, cut at its commas (crate `fields`, specs/Fields): what it is answered, said without its bytes
 -- one by one. That the code answers so is in proofs/Sentences.
-use Rattle.std.specs.Prelude.{ℕ, ◌&&◌, List, [], ◌∷◌}
-use Rattle.loops.specs.Cases.{if◌then◌else◌}
+use Rattle.std.specs.Prelude.{ℕ, ◌&&◌, List, [], ◌∷◌, if◌then◌else◌}
 use Rattle.fields.specs.Answers.{malformed_line}
 use Rattle.fields.specs.Fields.{is_number, spelled}
 use Rattle.pitch.specs.Pitch.{pitch_of}

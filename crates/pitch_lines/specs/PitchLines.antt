@@ -1,7 +1,7 @@
 -- R17.1, R17.3: the filter `pitches`: a call a line, `k,s,b` in decimal, and for each a line `number,octave,entry`,
 -- what `pitch_of k s b` answers. All text is ASCII, and every line ends with byte 0AH.
-use Rattle.std.specs.Prelude.{ℕ, suc, ◌≡◌, Bool, ◌&&◌, List, [], ◌∷◌, ◌++◌, eqb, ℤ, pos, negsuc}
-use Rattle.loops.specs.Cases.{if◌then◌else◌, or_zero}
+use Rattle.std.specs.Prelude.{ℕ, suc, ◌≡◌, Bool, ◌&&◌, List, [], ◌∷◌, ◌++◌, eqb, ℤ, pos, negsuc, if◌then◌else◌}
+use Rattle.loops.specs.Cases.{or_zero}
 use Rattle.text.specs.Text.{Put, decimal}
 use Rattle.pitch.specs.declared.Pitch.{Pitch}
 use Rattle.pitch.specs.declared.PitchAnswer.{PitchAnswer}

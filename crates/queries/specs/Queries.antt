@@ -1,7 +1,6 @@
 -- R7.3: queries give an answer and no record.
-use Rattle.std.specs.Prelude.{ℕ, Bool, leb}
+use Rattle.std.specs.Prelude.{ℕ, Bool, leb, if◌then◌else◌}
 use Rattle.std.proofs.Math.Option.{Option, some, none}
-use Rattle.loops.specs.Cases.{if◌then◌else◌}
 use Rattle.shares.specs.declared.Share.{Share}
 use Rattle.shares.specs.declared.Share.TheVariants.{Masked, Units}
 use Rattle.shares.specs.Shares.{share_of, is_channel}

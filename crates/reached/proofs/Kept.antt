@@ -2,6 +2,7 @@
 -- holds at most 127. A data byte is below 128, so that what a channel message carries is at most 127; it is the last
 -- byte, or the first one kept. Nothing else touches the channels but a reset, which makes them fresh.
 -- Assumes nothing.
+use Rattle.std.specs.Prelude.{if◌then◌else◌}
 use mathlib.Core.Path.{◌≡◌, refl, ◌∙◌}
 use mathlib.Core.Bool.{Bool, true, false, ◌&&◌, ◌||◌}
 use mathlib.Core.List.{List, [], ◌∷◌}
@@ -10,7 +11,7 @@ use native.Mathlib.Omega.{arith}
 use borrow.Author.Tests.{ltb-true}
 use lib.Dec.{eqb, leb, ltb}
 use lib.ListN.{length, get_or, set, drop, replicate, length-set}
-use Rattle.loops.specs.Cases.{if◌then◌else◌, differ, bit, at_most}
+use Rattle.loops.specs.Cases.{differ, bit, at_most}
 use Rattle.loops.proofs.Cases.{by_both}
 use Rattle.splitter.specs.declared.Parser.{Parser}
 use Rattle.splitter.specs.declared.Completed.{Completed}

@@ -1,6 +1,5 @@
 -- What releases or sustains notes. Only states change, and no generator becomes idle.
-use Rattle.std.specs.Prelude.{ℕ, Bool, ◌&&◌, List, eqb}
-use Rattle.loops.specs.Cases.{if◌then◌else◌}
+use Rattle.std.specs.Prelude.{ℕ, Bool, ◌&&◌, List, eqb, if◌then◌else◌}
 use Rattle.loops.specs.Passes.{up_to}
 use Rattle.generators.specs.declared.Generators.{Generators}
 use Rattle.generators.specs.Generators.{Generator, at, sustained, releasing, is_held, is_sustained, is_on, is_busy_on}

@@ -2,8 +2,7 @@
 // every value, in one pass over the generators. Assumes nothing.
 #![tactic(auto)]
 
-ghost use Rattle.std.specs.Prelude.{◌≡◌, get_or};
-ghost use Rattle.loops.specs.Cases.{if◌then◌else◌};
+ghost use Rattle.std.specs.Prelude.{◌≡◌, get_or, if◌then◌else◌};
 ghost use Rattle.loops.specs.Passes.{up_to};
 ghost use Rattle.generators.specs.Generators.{Generator, generator};
 ghost use Rattle.releases.specs.Releases.{changes, key_up, state_after, changed};

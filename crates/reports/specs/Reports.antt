@@ -1,6 +1,5 @@
 -- R7.1: a generator has rung out, as the tone generator reports.
-use Rattle.std.specs.Prelude.{ℕ, leb}
-use Rattle.loops.specs.Cases.{if◌then◌else◌}
+use Rattle.std.specs.Prelude.{ℕ, leb, if◌then◌else◌}
 use Rattle.generators.specs.Generators.{at, is_idle}
 use Rattle.silence.specs.declared.Leaving.TheVariants.{One}
 use Rattle.silence.specs.Silence.{silenced}

@@ -1,8 +1,7 @@
 -- The service page (section 15 of docs/RULES.md). R15.1: 17 lines of 18 characters and 0AH each, 323 bytes, in ASCII.
 -- Assumes nothing.
-use Rattle.std.specs.Prelude.{ℕ, zero, suc, ◌+◌, ◌/◌, ◌%◌, List, [], ◌∷◌, ◌++◌, eqb, ltb, length, drop}
+use Rattle.std.specs.Prelude.{ℕ, zero, suc, ◌+◌, ◌/◌, ◌%◌, List, [], ◌∷◌, ◌++◌, eqb, ltb, length, drop, if◌then◌else◌}
 use Rattle.std.proofs.Math.Option.{Option, some, none}
-use Rattle.loops.specs.Cases.{if◌then◌else◌}
 use Rattle.table.specs.declared.Entry.{Entry}
 use Rattle.table.specs.Table.{entries_of}
 use Rattle.shares.specs.declared.Share.{Share}

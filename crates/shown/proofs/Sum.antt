@@ -2,6 +2,7 @@
 -- that is one of the sixteen, since its note stands on a channel that the table lists. The sum over channels of sums
 -- over generators is the sum over generators of sums over channels.
 -- Assumes nothing.
+use Rattle.std.specs.Prelude.{if◌then◌else◌}
 use Prim.Native.Nat.{ℕ, zero, suc, ◌+◌, ◌/◌, ◌%◌, ◌≤◌, ◌<◌}
 use mathlib.Core.Path.{◌≡◌, refl, sym, ap, ◌∙◌}
 use mathlib.Core.Bool.{Bool, true, false, ◌&&◌, ◌||◌}
@@ -9,7 +10,7 @@ use mathlib.Core.List.{List, [], ◌∷◌}
 use native.Mathlib.Omega.{arith}
 use borrow.Author.Tests.{leb-true, leb-false, ltb-true, eqb-true, eq-eqb, ne_eqb}
 use lib.Dec.{eqb, ltb, leb}
-use Rattle.loops.specs.Cases.{bit, if◌then◌else◌}
+use Rattle.loops.specs.Cases.{bit}
 use Rattle.loops.specs.Passes.{total}
 use Rattle.loops.proofs.Totals.{total-same, total_add, total_zero, total_bits}
 use Rattle.loops.proofs.Tests.{impossible}

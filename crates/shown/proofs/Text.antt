@@ -1,6 +1,7 @@
 -- The page's bytes are 17 lines of text, for every record of bytes: each field has characters, since a place is at most
 -- 16, a count at most 64, and values and shares fit a byte. And numbers are right_aligned.
 -- Assumes nothing.
+use Rattle.std.specs.Prelude.{if◌then◌else◌}
 use Prim.Native.Nat.{ℕ, zero, suc, ◌+◌, ◌-◌, ◌/◌, ◌%◌, ◌≤◌, ◌<◌}
 use mathlib.Core.Path.{◌≡◌, refl}
 use mathlib.Core.Bool.{Bool, true, false, ◌&&◌}
@@ -9,7 +10,6 @@ use native.Mathlib.Omega.{arith}
 use borrow.Author.Tests.{leb-true, ltb-true, lt-ltb}
 use lib.Dec.{eqb, ltb, leb}
 use lib.ListN.{length, take}
-use Rattle.loops.specs.Cases.{if◌then◌else◌}
 use Rattle.loops.proofs.Padded.{at_most_le, length-at_most}
 use Rattle.loops.proofs.Tests.{and_left, and_right}
 use Rattle.loops.proofs.Totals.{total_bits}

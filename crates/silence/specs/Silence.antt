@@ -1,6 +1,5 @@
 -- The generators that become idle: by a report, by controller 120, by a drum of their group.
-use Rattle.std.specs.Prelude.{ℕ, Bool, ◌&&◌, not, eqb}
-use Rattle.loops.specs.Cases.{if◌then◌else◌}
+use Rattle.std.specs.Prelude.{ℕ, Bool, ◌&&◌, not, eqb, if◌then◌else◌}
 use Rattle.loops.specs.Passes.{up_to, filter_by}
 use Rattle.drums.specs.Drums.{excludes}
 use Rattle.ages.specs.Ages.{oldest_first, ages_of}

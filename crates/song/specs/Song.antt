@@ -1,8 +1,8 @@
 -- The hardest song (section 13 of docs/RULES.md): a song of n bytes in a lent buffer, and its thefts. That no song of
 -- n bytes makes more is stated in crate `hardest`.
-use Rattle.std.specs.Prelude.{ℕ, ◌+◌, ◌-◌, ◌/◌, ◌%◌, Bool, false, ◌||◌, List, [], ◌∷◌, ◌++◌, eqb, ltb, length, drop}
+use Rattle.std.specs.Prelude.{ℕ, ◌+◌, ◌-◌, ◌/◌, ◌%◌, Bool, false, ◌||◌, List, [], ◌∷◌, ◌++◌, eqb, ltb, length, drop, if◌then◌else◌}
 use Rattle.std.proofs.Math.Option.{Option, some, none}
-use Rattle.loops.specs.Cases.{if◌then◌else◌, bit}
+use Rattle.loops.specs.Cases.{bit}
 use Rattle.loops.specs.Passes.{up_to}
 use Rattle.allocation.specs.Allocation.{is_stolen}
 use Rattle.playing.specs.declared.Answer.{Answer}

@@ -1,6 +1,7 @@
 -- A P or an n that is above all that are accepted may be cut to one that is refused too: what the request gets stays.
 -- And a page may serve for the next song: it stays as long.
 -- Assumes nothing.
+use Rattle.std.specs.Prelude.{if◌then◌else◌}
 use Prim.Native.Nat.{ℕ, ◌≤◌, ◌<◌}
 use mathlib.Core.Path.{◌≡◌, refl}
 use mathlib.Core.Bool.{Bool, true, false, ◌||◌}
@@ -10,7 +11,7 @@ use lib.Dec.{ltb}
 use lib.ListN.{length, take, drop, length-append, length-drop}
 use lib.Seq.{take_at}
 use borrow.Author.Tests.{lt-ltb, ltb-false}
-use Rattle.loops.specs.Cases.{if◌then◌else◌, at_most}
+use Rattle.loops.specs.Cases.{at_most}
 use Rattle.loops.proofs.Fill.{length-up_to}
 use Rattle.device.specs.Device.{is_wrong_p, started}
 use Rattle.song.specs.declared.SongAnswer.{SongAnswer}

@@ -1,12 +1,13 @@
 -- What an input gets, said of lines and their fields and not of bytes: the laws of crate `fields` for what a request
 -- gets, on standard error and on standard output.
 -- Assumes nothing.
+use Rattle.std.specs.Prelude.{if◌then◌else◌}
 use Prim.Native.Nat.{ℕ, ◌^◌, ◌<◌}
 use mathlib.Core.Path.{◌≡◌, refl, ◌∙◌}
 use mathlib.Core.Bool.{Bool, true, false, ◌&&◌}
 use mathlib.Core.List.{List, [], ◌∷◌, ◌++◌}
 use lib.Dec.{eqb, lit<}
-use Rattle.loops.specs.Cases.{if◌then◌else◌, at_most, or_zero}
+use Rattle.loops.specs.Cases.{at_most, or_zero}
 use Rattle.loops.specs.Passes.{count}
 use Rattle.text.specs.Text.{decimal_within, decimal}
 use Rattle.fields.specs.declared.Line.{Line}

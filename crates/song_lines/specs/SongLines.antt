@@ -2,8 +2,8 @@
 -- standard error, what `song_answer P n` answers, and on standard output the listing program's input: P, the own ID 0,
 -- and the song (of several lines one behind the other; the listing program takes one). All text is ASCII, and every
 -- line ends with byte 0AH.
-use Rattle.std.specs.Prelude.{ℕ, ◌≤◌, ◌≡◌, Bool, ◌&&◌, List, [], ◌∷◌, ◌++◌, eqb, length, take, drop}
-use Rattle.loops.specs.Cases.{if◌then◌else◌, at_most, or_zero}
+use Rattle.std.specs.Prelude.{ℕ, ◌≤◌, ◌≡◌, Bool, ◌&&◌, List, [], ◌∷◌, ◌++◌, eqb, length, take, drop, if◌then◌else◌}
+use Rattle.loops.specs.Cases.{at_most, or_zero}
 use Rattle.text.specs.Text.{decimal}
 use Rattle.fields.specs.declared.Line.{Line}
 use Rattle.fields.specs.Line.{is_empty}

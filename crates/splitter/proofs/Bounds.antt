@@ -2,6 +2,7 @@
 -- bytes. An endless SysEx is neither stored nor overflows, and one that fills the parser is too long for every message
 -- that counts.
 -- Assumes nothing.
+use Rattle.std.specs.Prelude.{if◌then◌else◌}
 use mathlib.Core.Path.{◌≡◌, refl, sym, ap, ◌∙◌}
 use mathlib.Core.Bool.{Bool, true, false}
 use mathlib.Core.List.{List, [], ◌∷◌, ◌++◌, append_assoc, append-nil}
@@ -12,7 +13,6 @@ use borrow.Author.Tests.{ltb-true, ltb-false, le-ltb, eqb-true}
 use lib.Dec.{leb, ltb}
 use lib.ListN.{length, take, set, length-append, length-set}
 use lib.Seq.{take_all, take-suc-set, take-append-le, length-take-le}
-use Rattle.loops.specs.Cases.{if◌then◌else◌}
 use Rattle.splitter.specs.Split.{begun, stored, in_sys_ex, body, at_last}
 use Rattle.splitter.specs.Split.{completed, data_byte, opened, status_byte, split}
 use Rattle.splitter.specs.declared.Completed.TheVariants.{Nothing}

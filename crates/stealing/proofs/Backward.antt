@@ -1,6 +1,7 @@
 -- The channel of lowest priority over its share, looked for from the table's end: an entry that is over its share is
 -- the answer for the entries up to it, and one that is not leaves the answer to the entries before it.
 -- Assumes nothing.
+use Rattle.std.specs.Prelude.{if◌then◌else◌}
 use mathlib.Core.Path.{◌≡◌, refl, ap, ◌∙◌}
 use mathlib.Core.Bool.{Bool, true, false, ◌&&◌}
 use mathlib.Core.List.{List, [], ◌∷◌, ◌++◌}
@@ -11,7 +12,6 @@ use borrow.Author.Tests.{ne_eqb}
 use lib.Dec.{eqb, leb, ltb}
 use lib.ListN.{length, take, get_or}
 use lib.Seq.{take-suc}
-use Rattle.loops.specs.Cases.{if◌then◌else◌}
 use Rattle.table.specs.declared.Entry.{Entry}
 use Rattle.table.specs.Table.{entry}
 use Rattle.shares.specs.Shares.{shares_from}

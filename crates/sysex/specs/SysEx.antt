@@ -1,6 +1,5 @@
 -- Which SysEx are for this device (R3.1, R3.2, R3.6, R3.7). A SysEx is given as its data bytes, between F0 and F7.
-use Rattle.std.specs.Prelude.{ℕ, Bool, ◌&&◌, ◌||◌, List, length, get_or, eqb, leb}
-use Rattle.loops.specs.Cases.{if◌then◌else◌}
+use Rattle.std.specs.Prelude.{ℕ, Bool, ◌&&◌, ◌||◌, List, length, get_or, eqb, leb, if◌then◌else◌}
 use Rattle.sysex.specs.declared.Kind.{Kind}
 use Rattle.sysex.specs.declared.Kind.TheVariants.{Mip, SystemOn, Other}
 

@@ -1,13 +1,14 @@
 -- The starting table, for every P: its entries are the sixteen channels in their order, each with the value P, and well
 -- formed. The order is that of a formula, computed over all sixteen places.
 -- Assumes nothing.
+use Rattle.std.specs.Prelude.{if◌then◌else◌}
 use mathlib.Core.Path.{◌≡◌, refl, sym, ap, ◌∙◌}
 use mathlib.Core.List.{List, map}
 use Prim.Native.Nat.{ℕ, ◌+◌, ◌<◌}
 use borrow.Author.Rules.{rules}
 use lib.Dec.{eqb, ltb}
 use lib.ListN.{length, get_or}
-use Rattle.loops.specs.Cases.{if◌then◌else◌, bit}
+use Rattle.loops.specs.Cases.{bit}
 use Rattle.loops.specs.Passes.{up_to, padded}
 use Rattle.loops.proofs.Fill.{at-up_to}
 use Rattle.table.specs.Laws.{WellFormed}

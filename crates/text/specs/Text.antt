@@ -1,7 +1,6 @@
 -- Text in a page of bytes, and numbers as text.
-use Rattle.std.specs.Prelude.{ℕ, zero, suc, ◌+◌, ◌-◌, ◌/◌, ◌%◌, min, max, ◌≡◌, List, [], ◌∷◌, ◌++◌, ltb, eqb, length}
+use Rattle.std.specs.Prelude.{ℕ, zero, suc, ◌+◌, ◌-◌, ◌/◌, ◌%◌, min, max, ◌≡◌, List, [], ◌∷◌, ◌++◌, ltb, eqb, length, if◌then◌else◌}
 use Rattle.std.proofs.lemmas.List.Edits.{sets}
-use Rattle.loops.specs.Cases.{if◌then◌else◌}
 
 -- A text put at a place of a page, with the place and the page that this leaves. The place is the one behind the text,
 -- or the page's end if the text ran into it; a place past the end stays. The page has the text's bytes stored from the

@@ -1,5 +1,6 @@
 -- `masking::release` meets its contract. Invariant: the first i states are those of the rule, the others as they were.
 -- Assumes nothing.
+use Rattle.std.specs.Prelude.{if◌then◌else◌}
 use Prim.Native.Nat.{ℕ, ◌≤◌, ◌-◌}
 use mathlib.Core.Path.{◌≡◌, refl}
 use mathlib.Core.Bool.{◌&&◌, not}
@@ -7,7 +8,6 @@ use mathlib.Core.List.{List, ◌++◌}
 use native.Mathlib.Omega.{arith}
 use lib.Dec.{eqb}
 use lib.ListN.{length, drop, get_or}
-use Rattle.loops.specs.Cases.{if◌then◌else◌}
 use Rattle.loops.specs.Passes.{up_to}
 use Rattle.loops.proofs.Fill.{fill_next, fill_end}
 use Rattle.generators.specs.Generators.{generator, is_busy}

@@ -8,20 +8,20 @@ use Rattle.releases.proofs.select.Goals as goal
 
 pub returns-in-ReleaseNote : goal.returns-in-ReleaseNote
 unfolding selects changes
-returns-in-ReleaseNote c = λ x. simp c.change-1.given.1
+returns-in-ReleaseNote c = λ x. simp c.in-ReleaseNote.is
 
 pub returns-in-ReleaseChannel : goal.returns-in-ReleaseChannel
 unfolding selects changes
-returns-in-ReleaseChannel c = λ x. simp (c.change-in-ReleaseChannel-1.given.1, and-true)
+returns-in-ReleaseChannel c = λ x. simp (c.in-ReleaseChannel.is, and-true)
 
 pub returns-in-NoteOff : goal.returns-in-NoteOff
 unfolding selects changes
-returns-in-NoteOff c = λ x. simp (c.change-in-NoteOff-1.given.1, or-false)
+returns-in-NoteOff c = λ x. simp (c.in-NoteOff.is, or-false)
 
 pub returns-in-AllNotesOff : goal.returns-in-AllNotesOff
 unfolding selects changes
-returns-in-AllNotesOff c = λ x. simp (c.change-in-AllNotesOff-1.given.1, or-false, and-true)
+returns-in-AllNotesOff c = λ x. simp (c.in-AllNotesOff.is, or-false, and-true)
 
 pub returns-in-PedalUp : goal.returns-in-PedalUp
 unfolding selects changes
-returns-in-PedalUp c = λ x. simp (c.change-in-PedalUp-1.given.1, and-true)
+returns-in-PedalUp c = λ x. simp (c.in-PedalUp.is, and-true)

@@ -1,15 +1,12 @@
 -- `releases::states_after` meets its contract. Invariant: the first i states are those of the rule, the others as they
 -- were.
 -- Assumes nothing.
+use Rattle.std.specs.Prelude.{if◌then◌else◌}
 use Prim.Native.Nat.{ℕ, ◌≤◌, ◌-◌}
-use mathlib.Core.Path.{◌≡◌, refl, ap, ◌∙◌}
-use native.Mathlib.Omega.{arith}
-use mathlib.Core.Bool.{Bool}
+use mathlib.Core.Path.{◌≡◌}
 use mathlib.Core.List.{List, ◌++◌}
 use lib.ListN.{length, drop, get_or}
-use Rattle.loops.specs.Cases.{if◌then◌else◌}
 use Rattle.loops.specs.Passes.{up_to}
-use Rattle.loops.proofs.Fill.{fill_next, fill_end}
 use Rattle.releases.specs.declared.Selection.{Selection}
 use Rattle.generators.specs.Generators.{generator}
 use Rattle.releases.specs.Selection.{selects}

@@ -1,13 +1,13 @@
 -- `silence::unmarked` meets its contract. Invariant: the first i numbers are those of the rule, the others as they
 -- were.
 -- Assumes nothing.
+use Rattle.std.specs.Prelude.{if◌then◌else◌}
 use Prim.Native.Nat.{ℕ, ◌≤◌, ◌-◌}
 use mathlib.Core.Path.{◌≡◌, refl}
 use native.Mathlib.Omega.{arith}
 use mathlib.Core.List.{List, ◌++◌}
 use lib.Dec.{eqb}
 use lib.ListN.{length, drop, get_or}
-use Rattle.loops.specs.Cases.{if◌then◌else◌}
 use Rattle.loops.specs.Passes.{up_to}
 use Rattle.loops.proofs.Fill.{fill_next, fill_end}
 use borrow.Author.Rules.{rules}

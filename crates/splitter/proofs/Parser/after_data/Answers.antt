@@ -1,11 +1,11 @@
 -- `splitter::Parser::after_data` meets its contract: each branch is the definition's.
 -- Assumes nothing.
+use Rattle.std.specs.Prelude.{if◌then◌else◌}
 use Prim.Native.Nat.{ℕ}
 use mathlib.Core.Bool.{Bool, true, false}
 use mathlib.Core.Path.{◌≡◌, refl, sym, ◌∙◌}
 use lib.Dec.{leb}
 use borrow.Author.Tests.{lt-ltb, le-ltb}
-use Rattle.loops.specs.Cases.{if◌then◌else◌}
 use Rattle.splitter.specs.declared.Parser.{Parser}
 use Rattle.splitter.specs.Split.{begun, completed, data_byte}
 use Rattle.splitter.proofs.Parser.after_data.Goals as goal
