@@ -1,6 +1,7 @@
 -- The laws of the table of weights: one test of each weight and its place, computed in one sweep over the 127 numbers.
 -- The code has them in rows of sixteen, so that the test asks for the row too.
 -- Assumes nothing.
+use Rattle.std.specs.Prelude.{if◌then◌else◌}
 use mathlib.Core.Path.{◌≡◌, refl, sym, ap, ◌∙◌}
 use mathlib.Core.Bool.{Bool}
 use mathlib.Core.List.{List}
@@ -9,7 +10,6 @@ use native.Mathlib.Omega.{arith}
 use lib.Dec.{T, eqb, leb, ltb, eqb→eq, leb→le, ltb→lt}
 use lib.ListN.{length, get_or, take, drop}
 use borrow.Author.Tests.{lt-ltb}
-use Rattle.loops.specs.Cases.{if◌then◌else◌}
 use Rattle.loops.proofs.Sweep.{at, both, both_left, both_right}
 use Rattle.gains.specs.Gains.{weights, weight, Weighs}
 

@@ -1,10 +1,9 @@
 -- The gains left and right of a channel (section 12 of docs/RULES.md), by its expression, volume and pan.
 -- Assumes nothing.
-use Rattle.std.specs.Prelude.{ℕ, suc, ◌+◌, ◌-◌, ◌*◌, ◌≤◌, ◌<◌, ◌≡◌, Bool, true, false, ◌||◌, List, [], ◌∷◌, ltb, Float, get_or}
+use Rattle.std.specs.Prelude.{ℕ, suc, ◌+◌, ◌-◌, ◌*◌, ◌≤◌, ◌<◌, ◌≡◌, Bool, true, false, ◌||◌, List, [], ◌∷◌, ltb, Float, get_or, if◌then◌else◌}
 use Rattle.std.proofs.Math.Option.{Option, some, none}
 use Rattle.std.specs.Float.{binary32}
 use Rattle.std.specs.Float.Ieee.{of_bits}
-use Rattle.loops.specs.Cases.{if◌then◌else◌}
 use Rattle.channels.specs.declared.Channel.{Channel}
 use Rattle.gains.specs.declared.Gains.{Gains}
 use Rattle.gains.specs.declared.GainsAnswer.{GainsAnswer}

@@ -1,11 +1,11 @@
 -- `gains::gains_of` meets its contract: the three tests one after the other, then the gains at the place of the pan.
 -- Assumes nothing.
+use Rattle.std.specs.Prelude.{if◌then◌else◌}
 use mathlib.Core.Path.{◌≡◌, refl, sym, subst}
 use mathlib.Core.Bool.{Bool, true, false}
 use mathlib.Core.Option.{Option, some, none}
 use Prim.Native.Nat.{ℕ, ◌-◌}
 use borrow.Author.Tests.{lt-ltb, le-ltb}
-use Rattle.loops.specs.Cases.{if◌then◌else◌}
 use Rattle.gains.specs.declared.Gains.{Gains}
 use Rattle.gains.specs.declared.GainsAnswer.TheVariants.{GainsAre, OutOfRange}
 use Rattle.gains.specs.Gains.{weight, panned, Near, is_out, silent, Gives, Answered}
