@@ -4,7 +4,7 @@ use mathlib.Core.Path.{◌≡◌}
 use mathlib.Core.List.{List}
 use mir.Val.{Val}
 use denote.Laws.{Is}
-use lib.ListN.{length, length-map}
+use lib.ListN.{length}
 use Rattle.ages.specs.declared.Ages.{Ages}
 use Rattle.ages.specs.contracts.Ages as T
 

@@ -1,6 +1,7 @@
 // The generators that a note-on may take (R5.5 to R5.7, R5.9), by value, for every value, in one pass each.
 // Assumes nothing.
 #![tactic(auto)]
+
 ghost use Rattle.std.specs.Prelude.{◌≡◌, not, ◌≤◌, eqb, get_or};
 ghost use Rattle.loops.specs.Cases.{bit};
 ghost use Rattle.loops.specs.Passes.{total, first_of, marks_of};

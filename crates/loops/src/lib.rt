@@ -1,6 +1,7 @@
 // Ways of going over an array, as definitions (specs/) with one law for each (proofs/): what every loop of this
 // repository is proved by; and the small choices that loop bodies make without a branch. Assumes nothing.
 #![tactic(auto)]
+
 ghost use Rattle.std.specs.Prelude.{◌≡◌, ◌≤◌, ◌<◌, ◌-◌, get_or, if◌then◌else◌};
 ghost use Rattle.loops.specs.Cases.{bit, at_most};
 

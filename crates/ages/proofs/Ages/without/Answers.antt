@@ -1,7 +1,7 @@
 -- `ages::Ages::without` meets its contract. Invariant: with a 0 put at m the array holds the unmarked ones among the
 -- first i, and 0 behind them; m is their number. The measure is what is left of the order.
 -- Assumes nothing.
-use Prim.Native.Nat.{ℕ, ◌≤◌, ◌<◌, ◌-◌}
+use Prim.Native.Nat.{ℕ, ◌<◌}
 use mathlib.Core.Path.{◌≡◌, refl, sym, ap, ◌∙◌}
 use native.Mathlib.Omega.{arith}
 use lib.ListN.{length, set, get_or, length-set}

@@ -1,17 +1,12 @@
 -- `ages::Ages::without` meets its contract. Invariant: with a 0 put at m the array holds the unmarked ones among the
 -- first i, and 0 behind them; m is their number. The measure is what is left of the order.
 -- Assumes nothing.
-use Prim.Native.Nat.{ℕ, ◌≤◌, ◌<◌, ◌-◌}
-use mathlib.Core.Path.{◌≡◌, refl, sym, ap, ◌∙◌}
-use native.Mathlib.Omega.{arith}
-use lib.ListN.{length, set, get_or, length-set}
-use lib.Seq.{set_out}
-use Rattle.loops.specs.Cases.{bit}
-use Rattle.loops.specs.Passes.{filter_by, padded}
-use Rattle.loops.proofs.Compact.{kept, kept-count}
-use Rattle.ages.specs.Ages.{unmarked, without}
-use Rattle.ages.proofs.Orders.{kept_end, loose_next}
-use Rattle.ages.proofs.Sizes.{generator_64}
+use Prim.Native.Nat.{◌≤◌, ◌-◌}
+use mathlib.Core.Path.{◌≡◌}
+use lib.ListN.{length, set}
+use Rattle.loops.specs.Passes.{padded}
+use Rattle.loops.proofs.Compact.{kept}
+use Rattle.ages.specs.Ages.{unmarked}
 use Rattle.ages.proofs.Ages.without.Given as goal
 
 abbrev pub invariant-loop-i : goal.invariant-loop-i

@@ -1,0 +1,36 @@
+-- `candidates::marks` meets its contract. Invariant: the first i marks are those of the rule, the others 0. From
+-- 64 on no generator is wanted.
+-- Assumes nothing.
+use Prim.Native.Nat.{ℕ}
+use mathlib.Core.Path.{◌≡◌, refl, ap, ◌∙◌}
+use native.Mathlib.Omega.{arith}
+use lib.ListN.{replicate}
+use Rattle.loops.specs.Cases.{bit}
+use Rattle.loops.specs.Passes.{up_to}
+use Rattle.loops.proofs.Fill.{fill_next}
+use Rattle.loops.proofs.Marks.{room, marks_end}
+use Rattle.candidates.proofs.Wanted.{wanted_at, wanted_none}
+use Rattle.candidates.proofs.marks.Goals as goal
+
+pub loop-i-init : goal.loop-i-init
+unfolding up_to
+loop-i-init c = (omega arith, c.well_formed.0.1.0.1, refl)
+
+pub loop-i-preserved : goal.loop-i-preserved
+loop-i-preserved c =
+    let l = c.loop-i in
+    let a = c.args in
+    let x = c.one.ensures.0 ∙ ap bit c.is_wanted.ensures in (
+      omega arith,
+      l.invariant.1,
+      fill_next (λ (g : ℕ). bit (wanted_at a.want a.state a.channel g)) 0
+          (replicate 256 0) l.out l.i _ (room l.i (omega arith)) l.invariant.2 x,
+    )
+
+pub returns : goal.returns
+returns c =
+    let l = c.loop-i in
+    let a = c.args in
+    let e : l.i ≡ 64 = omega arith in
+    marks_end (wanted_at a.want a.state a.channel) 64
+    (wanted_none a.want a.state a.channel l.invariant.1) 192 refl l.out (rw e at l.invariant.2)
