@@ -1,6 +1,7 @@
 // What a channel remembers: its thirteen numbers (R1.8, R1.9), program change and pitch bend (R6.5), and which bank
 // makes a rhythm channel (R6.15); controllers are in crate controllers. By value, for every value. Assumes nothing.
 #![tactic(auto)]
+
 ghost use Rattle.std.specs.Prelude.{◌≡◌};
 ghost use Rattle.channels.specs.Channel.{fresh, fresh_rhythm, with_program, with_bend, rhythm_by};
 

@@ -2,6 +2,7 @@
 // Masks are no matter here: a masked channel's controllers are stored like any other's (R6.14). What becomes of the
 // notes is in crate other_messages. Assumes nothing.
 #![tactic(auto)]
+
 ghost use Rattle.std.specs.Prelude.{◌≡◌};
 ghost use Rattle.controllers.specs.Controllers.{data_entry, stored, reset, controlled};
 ghost use Rattle.controllers.specs.Controllers.{lifts_pedal, silences_all, ends_all};

@@ -2,6 +2,7 @@
 // quotients, each with the bound of its rounding.
 // Assumes nothing.
 #![tactic(auto)]
+
 ghost use Rattle.std.specs.Prelude.{◌≡◌, ◌≤◌, ◌<◌, ◌+◌, ◌-◌, ◌*◌};
 ghost use Rattle.gains.specs.Gains.{weight, panned, Near, Answered, AnsweredOf};
 

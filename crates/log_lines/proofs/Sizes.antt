@@ -7,7 +7,7 @@ use mathlib.Core.Bool.{Bool, true, false}
 use mathlib.Core.List.{List}
 use mir.Val.{Val}
 use denote.Laws.{Is}
-use lib.ListN.{length, set, length-map, length-set}
+use lib.ListN.{length, set, length-set}
 use Rattle.loops.specs.Cases.{at_most}
 use Rattle.fields.specs.Line.{new_line}
 use Rattle.arranging.specs.declared.Written.{Written}
@@ -17,10 +17,10 @@ use Rattle.log_lines.specs.LogLines.{order_line, is_put, lost, put_away}
 use Rattle.log_lines.specs.contracts.OrderLine as order-line
 
 pub bytes_38 : (w : Written) {vs : List Val} → Is written.the_row w vs → length w.bytes ≡ 38
-bytes_38 w g = simp length-map at g.1.1.1.1.0.1.0.1
+bytes_38 w g = g.1.1.1.1.0.1.0.1
 
 pub channels_16 : (c : OrderLine) {vs : List Val} → Is order-line.the_row c vs → length c.channels ≡ 16
-channels_16 c g = simp length-map at g.1.1.1.1.0.1.0.1
+channels_16 c g = g.1.1.1.1.0.1.0.1
 
 pub put_16 : (c : OrderLine) → length c.channels ≡ 16 → length (put_away c).channels ≡ 16
 unfolding put_away

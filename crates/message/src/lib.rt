@@ -1,5 +1,6 @@
 // What a channel message says (R1.12, R6.1, R6.5), for every status and data byte value. Assumes nothing.
 #![tactic(auto)]
+
 ghost use Rattle.std.specs.Prelude.{◌≡◌};
 ghost use Rattle.message.specs.Message.{decode};
 

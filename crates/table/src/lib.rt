@@ -2,6 +2,7 @@
 // much, is in crate shares; a MIP message's table is made in crate mip.
 // By value, for every table value and every P. Assumes nothing.
 #![tactic(auto)]
+
 ghost use Rattle.std.specs.Prelude.{◌≡◌};
 ghost use Rattle.table.specs.Table.{start_table};
 

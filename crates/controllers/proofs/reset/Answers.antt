@@ -2,12 +2,8 @@
 -- Assumes nothing.
 use mathlib.Core.Path.{refl}
 use Rattle.controllers.specs.Controllers.{reset}
-use Rattle.controllers.proofs.reset.Statement.{statement}
-use Rattle.controllers.proofs.reset.Tie as tie
+use Rattle.controllers.proofs.reset.Goals as goal
 
-returns : tie.Need-returns
+pub returns : goal.returns
 unfolding reset
 returns c = refl
-
-pub reset-spec : {M : Type 1} → statement M
-reset-spec = tie.close (tie.spec returns)

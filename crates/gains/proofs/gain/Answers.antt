@@ -3,16 +3,15 @@
 -- Assumes nothing.
 use mathlib.Core.Path.{refl}
 use Prim.Native.Nat.{ℕ, ◌*◌, ◌≤◌, ◌<◌}
-use native.Mathlib.Nat.{mul-le-mul, le_trans, lt_of_le_of_lt}
+use native.Mathlib.Nat.{mul-le-mul, le_trans}
 use native.Mathlib.Omega.{arith}
 use lib.Dec.{lit≤, lit<}
 use lib.IntN.{pos}
 use lib.Ieee.{Float, binary32, mul, div, of_int, of_bits}
-use borrow.Author.Rules.{rules}
 use Rattle.gains.specs.Gains.{Near}
 use Rattle.gains.proofs.Rounding.{H, CloseTo, quotient, mul_close, within, at_most_1, is_0}
-use Rattle.gains.proofs.gain.Statement.{statement}
-use Rattle.gains.proofs.gain.Tie as tie
+use borrow.Author.Rules.{rules}
+use Rattle.gains.proofs.gain.Goals as goal
 
 square : (n : ℕ) → n < 128 → n * n ≤ 16129
 square n h = mul-le-mul {n₁ = n} {m₁ = n} {n₂ = 127} {m₂ = 127} (omega arith) (omega arith)
@@ -43,16 +42,7 @@ gained e v w he hv hw =
     (mul-le-mul (square e he) (square v hv)) hw level (weighed-close w hw) in
     (within _ _ (e * e * (v * v) * w) (16129 * 16129 * 32768) _ (lit≤ tt) all, at_most_1 _ _ _ _ all, is_0 _ _ _ _ all)
 
-mul-e2 : tie.Need-overflow-mul-e2
-mul-e2 c = record { fits = lt_of_le_of_lt (square c.args.e (search rules)) (lit< tt) }
-
-mul-v2 : tie.Need-overflow-mul-v2
-mul-v2 c = record { fits = lt_of_le_of_lt (square c.args.v (search rules)) (lit< tt) }
-
-returns : tie.Need-returns
+pub returns : goal.returns
 returns c =
-    let a = c.before.before.before.args in
+    let a = c.args in
     gained a.e a.v a.w (search rules) (search rules) (search rules)
-
-pub gain-spec : {M : Type 1} → statement M
-gain-spec = tie.close (tie.spec mul-e2 mul-v2 (λ c. search rules) (λ c. search rules) (λ c. search rules) returns)

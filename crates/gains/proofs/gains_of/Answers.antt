@@ -5,13 +5,11 @@ use mathlib.Core.Path.{◌≡◌, refl, sym, subst}
 use mathlib.Core.Bool.{Bool, true, false}
 use mathlib.Core.Option.{Option, some, none}
 use Prim.Native.Nat.{ℕ, ◌-◌}
-use borrow.Author.Rules.{rules}
 use borrow.Author.Tests.{lt-ltb, le-ltb}
 use Rattle.gains.specs.declared.Gains.{Gains}
 use Rattle.gains.specs.declared.GainsAnswer.TheVariants.{GainsAre, OutOfRange}
 use Rattle.gains.specs.Gains.{weight, panned, Near, is_out, silent, Gives, Answered}
-use Rattle.gains.proofs.gains_of.Statement.{statement}
-use Rattle.gains.proofs.gains_of.Tie as tie
+use Rattle.gains.proofs.gains_of.Goals as goal
 
 -- what is answered, by what the tests said
 abbrev Told : ℕ → ℕ → ℕ → Option ℕ → Gains → Bool → Type 0
@@ -31,32 +29,28 @@ given e v p q g h s left right =
       ),
     )
 
-returns : tie.Need-returns
-returns c = let a = c.before.args in refused a.expression a.volume a.pan (simp (lt-ltb _ _ c.if1.true))
+pub returns-then-expression-gt127 : goal.returns-then-expression-gt127
+returns-then-expression-gt127 c = let a = c.args in refused a.expression a.volume a.pan (simp (lt-ltb _ _ c.if-expression-gt127.true))
 
-returns-2 : tie.Need-returns-2
-returns-2 c =
-    let a = c.before.before.args in
-    refused a.expression a.volume a.pan (simp (le-ltb _ _ c.before.if1.false, lt-ltb _ _ c.if2.true))
+pub returns-then-volume-gt127 : goal.returns-then-volume-gt127
+returns-then-volume-gt127 c =
+    let a = c.args in
+    refused a.expression a.volume a.pan (simp (le-ltb _ _ c.if-expression-gt127.false, lt-ltb _ _ c.if-volume-gt127.true))
 
-returns-3 : tie.Need-returns-3
-returns-3 c =
-    let a = c.before.before.before.args in
+pub returns-then-pan-gt127 : goal.returns-then-pan-gt127
+returns-then-pan-gt127 c =
+    let a = c.args in
     refused a.expression a.volume a.pan
-    (simp (le-ltb _ _ c.before.before.if1.false, le-ltb _ _ c.before.if2.false, lt-ltb _ _ c.if3.true))
+    (simp (le-ltb _ _ c.if-expression-gt127.false, le-ltb _ _ c.if-volume-gt127.false, lt-ltb _ _ c.if-pan-gt127.true))
 
-returns-4 : tie.Need-returns-4
-returns-4 c =
-    let b = c.before in
-    let a = b.before.before.before.before.args in
-    given a.expression a.volume a.pan b.place_of.result c.gains-at.result
+pub returns : goal.returns
+returns c =
+    let b = c in
+    let a = b.args in
+    given a.expression a.volume a.pan b.place_of-p.result c.gains_at.result
     (simp (
-      le-ltb _ _ b.before.before.before.if1.false,
-      le-ltb _ _ b.before.before.if2.false,
-      le-ltb _ _ b.before.if3.false,
+      le-ltb _ _ b.if-expression-gt127.false,
+      le-ltb _ _ b.if-volume-gt127.false,
+      le-ltb _ _ b.if-pan-gt127.false,
     ))
-    b.place_of.ensures.0 c.gains-at.ensures.0 c.gains-at.ensures.1
-
-pub gains-of-spec : {M : Type 1} → statement M
-gains-of-spec =
-    tie.close (tie.spec returns returns-2 returns-3 (λ c κs. search rules) (λ c κs. search rules) returns-4)
+    b.place_of-p.ensures.0 c.gains_at.ensures.0 c.gains_at.ensures.1
