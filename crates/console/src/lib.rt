@@ -1,11 +1,14 @@
-// A program's way to standard input, output and error. Assumes the contracts of the C library's read and write, and
-// nothing else: they say how many bytes a call moved or that it moved none, and not why. So a call that moved none is
-// made again, which goes on after an interruption, and what keeps failing is an error.
+// A program's way to standard input, output and error, over the runtime that its `main` is given. Each call of `read` or
+// `write` is one call of the system's; their contracts say how many bytes it moved, or that it moved none, and not which.
+// A call that moved none is made again, whatever its error, which goes on after an interruption, and what keeps failing
+// is an error.
 #![tactic(auto)]
+
 ghost use Rattle.std.specs.Prelude.{◌≡◌, length, ◌+◌, ◌≤◌, min};
+ghost use Rattle.io.specs.Counts.{IsPrefixLen};
 ghost use Rattle.console.specs.Console.{Reads, Writes};
 
-use libc::{STDERR_FILENO, STDIN_FILENO, STDOUT_FILENO};
+use std::io::{Read, Write};
 
 // So many calls in a row that move nothing are an error. A signal interrupts a call once and no call a hundred times in
 // a row; an input that has no byte yet and does not wait for one (O_NONBLOCK) is an error that is said.
@@ -29,10 +32,10 @@ pub enum Output {
     Cut(usize),
 }
 
-fn input_of(got: isize, buffer: &[u8]) -> Input
+fn input_of(n: usize, buffer: &[u8]) -> Input
+    requires { IsPrefixLen n buffer.now }
     ensures { Reads buffer.now result }
 {
-    let n = io::count(got, buffer);
     if n == 0 {
         return Input::End;
     }
@@ -40,14 +43,14 @@ fn input_of(got: isize, buffer: &[u8]) -> Input
 }
 
 // Waits for bytes on standard input, and takes those that are there, as far as the buffer has room.
-pub fn read(buffer: &mut [u8]) -> Input
+pub fn read(rt: &HostRuntime, buffer: &mut [u8]) -> Input
     ensures { Reads buffer.new result }
 {
+    let mut input = rt.stdin();
     let mut tries = TRIES;
     while 0 < tries {
-        let got = libc::read(STDIN_FILENO, buffer);
-        if 0 <= got {
-            return input_of(got, buffer);
+        if let Ok(n) = input.read(buffer) {
+            return input_of(n, buffer);
         }
         tries -= 1;
     }
@@ -55,16 +58,18 @@ pub fn read(buffer: &mut [u8]) -> Input
 }
 
 // One write of what the page has from one place to another, and how many bytes of it were taken.
-fn write_part(fd: i32, page: &[u8], from: usize, to: usize) -> usize
+fn write_part<W: Write>(output: &mut W, page: &[u8], from: usize, to: usize) -> usize
     requires { (from ≤ to) × (to ≤ length page.now) }
     ensures { from + result ≤ to }
 {
     let part = &page[from..to];
-    let taken = libc::write(fd, part);
-    io::count(taken, part)
+    match output.write(part) {
+        Ok(taken) => taken,
+        Err(_) => 0,
+    }
 }
 
-fn write_to(fd: i32, page: &[u8], to: usize) -> Output
+fn write_to<W: Write>(output: &mut W, page: &[u8], to: usize) -> Output
     requires { to ≤ length page.now }
     ensures { Writes to result }
 {
@@ -74,7 +79,7 @@ fn write_to(fd: i32, page: &[u8], to: usize) -> Output
         if tries == 0 {
             return Output::Cut(from);
         }
-        let taken = write_part(fd, page, from, to);
+        let taken = write_part(output, page, from, to);
         from += taken;
         tries = if taken == 0 { tries - 1 } else { TRIES };
     }
@@ -83,33 +88,33 @@ fn write_to(fd: i32, page: &[u8], to: usize) -> Output
 
 // Writes the first `used` bytes of the page, or all of it if that is more than it has. What reaches the other end no
 // contract can say.
-fn write_first(fd: i32, page: &[u8], used: usize) -> Output
+fn write_first<W: Write>(output: &mut W, page: &[u8], used: usize) -> Output
     ensures { Writes (min used (length page.now)) result }
 {
     if used <= page.len() {
-        return write_to(fd, page, used);
+        return write_to(output, page, used);
     }
-    write_to(fd, page, page.len())
+    write_to(output, page, page.len())
 }
 
 // That to standard output.
-pub fn write(page: &[u8], used: usize) -> Output
+pub fn write(rt: &HostRuntime, page: &[u8], used: usize) -> Output
     ensures { Writes (min used (length page.now)) result }
 {
-    write_first(STDOUT_FILENO, page, used)
+    write_first(&mut rt.stdout(), page, used)
 }
 
 // That to standard error.
-pub fn write_error(page: &[u8], used: usize) -> Output
+pub fn write_error(rt: &HostRuntime, page: &[u8], used: usize) -> Output
     ensures { Writes (min used (length page.now)) result }
 {
-    write_first(STDERR_FILENO, page, used)
+    write_first(&mut rt.stderr(), page, used)
 }
 
 // Writes a line to standard error, if that takes it, and answers the status of a program that failed.
-pub fn fail(line: &[u8]) -> u32
+pub fn fail(rt: &HostRuntime, line: &[u8]) -> u32
     ensures { result ≡ 1 }
 {
-    write_to(STDERR_FILENO, line, line.len());
+    write_to(&mut rt.stderr(), line, line.len());
     1
 }
