@@ -1,6 +1,7 @@
 // Joint counts (R14.5): the busy generators on a channel of an order and on those before it, and the largest seen so
 // far, for every order and every record. Assumes nothing.
 #![tactic(auto)]
+
 ghost use Rattle.std.specs.Prelude.{◌≡◌, ◌+◌, ◌≤◌, ◌<◌, take};
 ghost use Rattle.joint.specs.Joint.{among, busy_on, larger, raised};
 

@@ -1,5 +1,6 @@
 // An order of the sixteen channels (R14.3), for every list of bytes. Assumes nothing.
 #![tactic(auto)]
+
 ghost use Rattle.std.specs.Prelude.{◌≡◌, ◌+◌, eqb, length};
 ghost use Rattle.order.specs.Order.{each, times, no_order, order_of};
 

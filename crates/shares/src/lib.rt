@@ -1,6 +1,7 @@
 // Masks and shares: which channels of a table may play among P generators, and how many notes each is sure of (R2.2
 // to R2.5). By value, for every table value and every P. Assumes nothing.
 #![tactic(auto)]
+
 ghost use Rattle.std.specs.Prelude.{◌≡◌};
 ghost use Rattle.shares.specs.Shares.{share_of, is_masked, is_channel};
 
