@@ -1,8 +1,7 @@
-// The programs that read standard input and write standard output, each as a function that answers its exit status. One
-// loop reads for all of them, an input of any length, and what is known is written before more is waited for; the
-// answers to requests of songs, and of a log, go to standard error. What the bytes answer is in crates `listed`,
-// `pitch_lines`, `song_lines`, `log_lines` and `page_lines`. Assumes the contracts of the C library's read and write,
-// and nothing else.
+// The programs that read standard input and write standard output, each as a function that answers its exit status, over
+// the runtime that a program's `main` is given. One loop reads for all of them, an input of any length, and what is known
+// is written before more is waited for; the answers to requests of songs, and of a log, go to standard error. What the
+// bytes answer is in crates `listed`, `pitch_lines`, `song_lines`, `log_lines` and `page_lines`. Assumes nothing.
 #![tactic(auto)]
 ghost use Rattle.std.specs.Prelude.{◌≤◌};
 
@@ -70,34 +69,34 @@ fn begin(program: Program) -> Kept {
 }
 
 // Tells an error, behind the program's name, and answers that there was one.
-fn tell(program: Program, what: &[u8]) -> bool {
+fn tell(rt: &HostRuntime, program: Program, what: &[u8]) -> bool {
     match program {
         Program::Listing => {
-            console::fail(b"listing");
+            console::fail(rt, b"listing");
         }
         Program::Pitches => {
-            console::fail(b"pitches");
+            console::fail(rt, b"pitches");
         }
         Program::HardestSong => {
-            console::fail(b"hardest_song");
+            console::fail(rt, b"hardest_song");
         }
         Program::Arrange => {
-            console::fail(b"arrange");
+            console::fail(rt, b"arrange");
         }
         Program::Page => {
-            console::fail(b"page");
+            console::fail(rt, b"page");
         }
     }
-    console::fail(what);
+    console::fail(rt, what);
     true
 }
 
 // Writes what is answered, and answers whether that failed.
-fn write_out(program: Program, page: &[u8], used: usize) -> bool {
-    let o = console::write(page, used);
+fn write_out(rt: &HostRuntime, program: Program, page: &[u8], used: usize) -> bool {
+    let o = console::write(rt, page, used);
     match o {
         Output::Whole => false,
-        Output::Cut(_) => tell(program, b": standard output takes no more\n"),
+        Output::Cut(_) => tell(rt, program, b": standard output takes no more\n"),
     }
 }
 
@@ -108,9 +107,9 @@ fn is_over(l: Lister) -> bool {
 }
 
 // Writes, and keeps this; after that there may be no more to read.
-fn written(k: Kept, page: &[u8], used: usize, over: bool) -> Turn {
+fn written(rt: &HostRuntime, k: Kept, page: &[u8], used: usize, over: bool) -> Turn {
     let program = k.program;
-    let failed = write_out(program, page, used);
+    let failed = write_out(rt, program, page, used);
     Turn {
         more: !(failed | over),
         failed: failed,
@@ -118,20 +117,20 @@ fn written(k: Kept, page: &[u8], used: usize, over: bool) -> Turn {
     }
 }
 
-fn list(k: Kept, page: &mut [u8], bytes: &[u8]) -> Turn {
+fn list(rt: &HostRuntime, k: Kept, page: &mut [u8], bytes: &[u8]) -> Turn {
     let s = listed::all(k.lister, page, bytes);
     let lister = s.lister;
     let mut next = k;
     next.lister = lister;
-    written(next, page, s.used, is_over(lister))
+    written(rt, next, page, s.used, is_over(lister))
 }
 
-fn pitch(k: Kept, page: &mut [u8], bytes: &[u8]) -> Turn {
+fn pitch(rt: &HostRuntime, k: Kept, page: &mut [u8], bytes: &[u8]) -> Turn {
     let s = pitch_lines::all(k.line, page, bytes);
     let line = s.line;
     let mut next = k;
     next.line = line;
-    written(next, page, s.used, false)
+    written(rt, next, page, s.used, false)
 }
 
 fn is_song(a: SongAnswer) -> bool {
@@ -144,8 +143,8 @@ fn is_song(a: SongAnswer) -> bool {
 
 // Writes the line of an answer to standard error. If that fails there is no place to tell it, and the status alone says
 // so.
-fn answered(line: &[u8], used: usize, refused: bool) -> Outcome {
-    let o = console::write_error(line, used);
+fn answered(rt: &HostRuntime, line: &[u8], used: usize, refused: bool) -> Outcome {
+    let o = console::write_error(rt, line, used);
     match o {
         Output::Whole => Outcome {
             refused: refused,
@@ -159,10 +158,10 @@ fn answered(line: &[u8], used: usize, refused: bool) -> Outcome {
 }
 
 // A song is written whole before its answer says so. The page is the song's buffer.
-fn give_song(page: &mut [u8], polyphony: u8, n: usize) -> Outcome {
+fn give_song(rt: &HostRuntime, page: &mut [u8], polyphony: u8, n: usize) -> Outcome {
     let w = song_lines::put_song(page, polyphony, n);
     let a = w.answer;
-    if write_out(Program::HardestSong, page, w.used) {
+    if write_out(rt, Program::HardestSong, page, w.used) {
         return Outcome {
             refused: false,
             failed: true,
@@ -170,28 +169,28 @@ fn give_song(page: &mut [u8], polyphony: u8, n: usize) -> Outcome {
     }
     let mut line = [0u8; 16];
     let used = song_lines::put_answer(&mut line, a);
-    answered(&line, used, !is_song(a))
+    answered(rt, &line, used, !is_song(a))
 }
 
-fn malformed() -> Outcome {
+fn malformed(rt: &HostRuntime) -> Outcome {
     let mut line = [0u8; 16];
     let used = song_lines::put_malformed(&mut line);
-    answered(&line, used, true)
+    answered(rt, &line, used, true)
 }
 
-fn answer(page: &mut [u8], r: Request) -> Outcome {
+fn answer(rt: &HostRuntime, page: &mut [u8], r: Request) -> Outcome {
     match r {
         Request::Nothing => Outcome {
             refused: false,
             failed: false,
         },
-        Request::Malformed => malformed(),
-        Request::Song(polyphony, n) => give_song(page, polyphony, n),
+        Request::Malformed => malformed(rt),
+        Request::Song(polyphony, n) => give_song(rt, page, polyphony, n),
     }
 }
 
 // Each request is answered as soon as its line has ended.
-fn answer_all(k: Kept, page: &mut [u8], bytes: &[u8]) -> Turn {
+fn answer_all(rt: &HostRuntime, k: Kept, page: &mut [u8], bytes: &[u8]) -> Turn {
     let mut line = k.line;
     let mut refused = k.refused;
     let mut failed = false;
@@ -200,7 +199,7 @@ fn answer_all(k: Kept, page: &mut [u8], bytes: &[u8]) -> Turn {
         let s = song_lines::next(line, bytes[i]);
         let next = s.line;
         let request = s.request;
-        let o = answer(page, request);
+        let o = answer(rt, page, request);
         line = next;
         refused = refused | o.refused;
         failed = o.failed;
@@ -217,9 +216,9 @@ fn answer_all(k: Kept, page: &mut [u8], bytes: &[u8]) -> Turn {
 }
 
 // A request that was refused, at any time, is told by the status.
-fn end_songs(k: Kept, page: &mut [u8]) -> Turn {
+fn end_songs(rt: &HostRuntime, k: Kept, page: &mut [u8]) -> Turn {
     let request = song_lines::end(k.line);
-    let o = answer(page, request);
+    let o = answer(rt, page, request);
     Turn {
         more: false,
         failed: o.failed | o.refused | k.refused,
@@ -228,9 +227,9 @@ fn end_songs(k: Kept, page: &mut [u8]) -> Turn {
 }
 
 // The message is written whole before its line says so.
-fn message_outcome(page: &mut [u8], w: Written) -> Outcome {
+fn message_outcome(rt: &HostRuntime, page: &mut [u8], w: Written) -> Outcome {
     let used = log_lines::put_message(page, w);
-    if write_out(Program::Arrange, page, used) {
+    if write_out(rt, Program::Arrange, page, used) {
         return Outcome {
             refused: false,
             failed: true,
@@ -238,13 +237,13 @@ fn message_outcome(page: &mut [u8], w: Written) -> Outcome {
     }
     let mut line = [0u8; 160];
     let length = log_lines::put_written(&mut line, 0, w);
-    answered(&line, length, w.number != 0)
+    answered(rt, &line, length, w.number != 0)
 }
 
 // The answer to a log ends the program, and a number is told by the status.
-fn give_message(k: Kept, page: &mut [u8]) -> Turn {
+fn give_message(rt: &HostRuntime, k: Kept, page: &mut [u8]) -> Turn {
     let w = log_lines::end(k.reading);
-    let o = message_outcome(page, w);
+    let o = message_outcome(rt, page, w);
     Turn {
         more: false,
         failed: o.failed | o.refused,
@@ -253,12 +252,12 @@ fn give_message(k: Kept, page: &mut [u8]) -> Turn {
 }
 
 // Where a number has fallen the answer is known, whatever comes behind it.
-fn hear(k: Kept, page: &mut [u8], bytes: &[u8]) -> Turn {
+fn hear(rt: &HostRuntime, k: Kept, page: &mut [u8], bytes: &[u8]) -> Turn {
     let reading = log_lines::all(k.reading, bytes);
     let mut next = k;
     next.reading = reading;
     if log_lines::is_known(reading) {
-        return give_message(next, page);
+        return give_message(rt, next, page);
     }
     Turn {
         more: true,
@@ -268,10 +267,10 @@ fn hear(k: Kept, page: &mut [u8], bytes: &[u8]) -> Turn {
 }
 
 // The answer to an input ends the program, and a refused start is told by the status.
-fn give_page(k: Kept, page: &mut [u8]) -> Turn {
+fn give_page(rt: &HostRuntime, k: Kept, page: &mut [u8]) -> Turn {
     let lister = page_lines::end(k.lister);
     let used = page_lines::put_answer(page, lister);
-    let failed = write_out(Program::Page, page, used);
+    let failed = write_out(rt, Program::Page, page, used);
     Turn {
         more: false,
         failed: failed | is_over(lister),
@@ -280,12 +279,12 @@ fn give_page(k: Kept, page: &mut [u8]) -> Turn {
 }
 
 // Nothing is written before the input's end, unless its start was refused.
-fn play(k: Kept, page: &mut [u8], bytes: &[u8]) -> Turn {
+fn play(rt: &HostRuntime, k: Kept, page: &mut [u8], bytes: &[u8]) -> Turn {
     let lister = page_lines::all(k.lister, bytes);
     let mut next = k;
     next.lister = lister;
     if is_over(lister) {
-        return give_page(next, page);
+        return give_page(rt, next, page);
     }
     Turn {
         more: true,
@@ -294,43 +293,43 @@ fn play(k: Kept, page: &mut [u8], bytes: &[u8]) -> Turn {
     }
 }
 
-fn take(k: Kept, page: &mut [u8], bytes: &[u8]) -> Turn {
+fn take(rt: &HostRuntime, k: Kept, page: &mut [u8], bytes: &[u8]) -> Turn {
     let program = k.program;
     match program {
-        Program::Listing => list(k, page, bytes),
-        Program::Pitches => pitch(k, page, bytes),
-        Program::HardestSong => answer_all(k, page, bytes),
-        Program::Arrange => hear(k, page, bytes),
-        Program::Page => play(k, page, bytes),
+        Program::Listing => list(rt, k, page, bytes),
+        Program::Pitches => pitch(rt, k, page, bytes),
+        Program::HardestSong => answer_all(rt, k, page, bytes),
+        Program::Arrange => hear(rt, k, page, bytes),
+        Program::Page => play(rt, k, page, bytes),
     }
 }
 
-fn end_list(k: Kept, page: &mut [u8]) -> Turn {
+fn end_list(rt: &HostRuntime, k: Kept, page: &mut [u8]) -> Turn {
     let used = listed::end(k.lister, page);
-    written(k, page, used, true)
+    written(rt, k, page, used, true)
 }
 
-fn end_pitch(k: Kept, page: &mut [u8]) -> Turn {
+fn end_pitch(rt: &HostRuntime, k: Kept, page: &mut [u8]) -> Turn {
     let used = pitch_lines::end(k.line, page);
-    written(k, page, used, true)
+    written(rt, k, page, used, true)
 }
 
 // What the end of the input adds.
-fn end(k: Kept, page: &mut [u8]) -> Turn {
+fn end(rt: &HostRuntime, k: Kept, page: &mut [u8]) -> Turn {
     let program = k.program;
     match program {
-        Program::Listing => end_list(k, page),
-        Program::Pitches => end_pitch(k, page),
-        Program::HardestSong => end_songs(k, page),
-        Program::Arrange => give_message(k, page),
-        Program::Page => give_page(k, page),
+        Program::Listing => end_list(rt, k, page),
+        Program::Pitches => end_pitch(rt, k, page),
+        Program::HardestSong => end_songs(rt, k, page),
+        Program::Arrange => give_message(rt, k, page),
+        Program::Page => give_page(rt, k, page),
     }
 }
 
 // Nothing is answered for what could not be read: the input did not end.
-fn give_up(k: Kept) -> Turn {
+fn give_up(rt: &HostRuntime, k: Kept) -> Turn {
     let program = k.program;
-    let failed = tell(program, b": standard input can't be read\n");
+    let failed = tell(rt, program, b": standard input can't be read\n");
     Turn {
         more: false,
         failed: failed,
@@ -338,19 +337,19 @@ fn give_up(k: Kept) -> Turn {
     }
 }
 
-fn read_once(k: Kept, page: &mut [u8]) -> Turn {
+fn read_once(rt: &HostRuntime, k: Kept, page: &mut [u8]) -> Turn {
     let mut input = [0u8; 1024];
-    let got = console::read(&mut input);
+    let got = console::read(rt, &mut input);
     match got {
-        Input::Bytes(n) => take(k, page, &input[..n]),
-        Input::End => end(k, page),
-        Input::Unreadable => give_up(k),
+        Input::Bytes(n) => take(rt, k, page, &input[..n]),
+        Input::End => end(rt, k, page),
+        Input::Unreadable => give_up(rt, k),
     }
 }
 
 // A proved loop has to end, so the turns are counted down from a number that no input uses up. Answers whether the
 // program failed.
-fn read_all(k: Kept, page: &mut [u8]) -> bool {
+fn read_all(rt: &HostRuntime, k: Kept, page: &mut [u8]) -> bool {
     let mut turns = u64::MAX;
     let mut kept = k;
     let mut more = true;
@@ -360,7 +359,7 @@ fn read_all(k: Kept, page: &mut [u8]) -> bool {
             return true;
         }
         turns -= 1;
-        let t = read_once(kept, page);
+        let t = read_once(rt, kept, page);
         more = t.more;
         failed = t.failed;
         let next = t.kept;
@@ -369,28 +368,28 @@ fn read_all(k: Kept, page: &mut [u8]) -> bool {
     failed
 }
 
-fn list_all(page: &mut [u8]) -> bool {
+fn list_all(rt: &HostRuntime, page: &mut [u8]) -> bool {
     let used = listed::put_heading(page);
-    if write_out(Program::Listing, page, used) {
+    if write_out(rt, Program::Listing, page, used) {
         return true;
     }
-    read_all(begin(Program::Listing), page)
+    read_all(rt, begin(Program::Listing), page)
 }
 
-fn pitch_all(page: &mut [u8]) -> bool {
-    read_all(begin(Program::Pitches), page)
+fn pitch_all(rt: &HostRuntime, page: &mut [u8]) -> bool {
+    read_all(rt, begin(Program::Pitches), page)
 }
 
-fn song_all(page: &mut [u8]) -> bool {
-    read_all(begin(Program::HardestSong), page)
+fn song_all(rt: &HostRuntime, page: &mut [u8]) -> bool {
+    read_all(rt, begin(Program::HardestSong), page)
 }
 
-fn arrange_all(page: &mut [u8]) -> bool {
-    read_all(begin(Program::Arrange), page)
+fn arrange_all(rt: &HostRuntime, page: &mut [u8]) -> bool {
+    read_all(rt, begin(Program::Arrange), page)
 }
 
-fn page_all(page: &mut [u8]) -> bool {
-    read_all(begin(Program::Page), page)
+fn page_all(rt: &HostRuntime, page: &mut [u8]) -> bool {
+    read_all(rt, begin(Program::Page), page)
 }
 
 // The exit status: 0, or 1 if the program failed.
@@ -401,51 +400,46 @@ fn status(failed: bool) -> u32
 }
 
 // That of the listing program.
-#[unsafe(no_mangle)]
-pub extern "C" fn listing_status() -> u32
+pub fn listing_status(rt: &HostRuntime) -> u32
     ensures { result ≤ 1 }
 {
     let mut space = empty_page();
     let page: &mut [u8] = &mut space;
-    status(list_all(page))
+    status(list_all(rt, page))
 }
 
 // That of the pitch filter.
-#[unsafe(no_mangle)]
-pub extern "C" fn pitches_status() -> u32
+pub fn pitches_status(rt: &HostRuntime) -> u32
     ensures { result ≤ 1 }
 {
     let mut space = empty_page();
     let page: &mut [u8] = &mut space;
-    status(pitch_all(page))
+    status(pitch_all(rt, page))
 }
 
 // That of the program that writes the hardest song: 1 too if a request was refused or malformed.
-#[unsafe(no_mangle)]
-pub extern "C" fn hardest_song_status() -> u32
+pub fn hardest_song_status(rt: &HostRuntime) -> u32
     ensures { result ≤ 1 }
 {
     let mut space = empty_page();
     let page: &mut [u8] = &mut space;
-    status(song_all(page))
+    status(song_all(rt, page))
 }
 
 // That of the program that writes the MIP message of a log: 1 too if a number fell.
-#[unsafe(no_mangle)]
-pub extern "C" fn arrange_status() -> u32
+pub fn arrange_status(rt: &HostRuntime) -> u32
     ensures { result ≤ 1 }
 {
     let mut space = empty_page();
     let page: &mut [u8] = &mut space;
-    status(arrange_all(page))
+    status(arrange_all(rt, page))
 }
 
 // That of the program that writes the service page: 1 too if the start was refused.
-#[unsafe(no_mangle)]
-pub extern "C" fn page_status() -> u32
+pub fn page_status(rt: &HostRuntime) -> u32
     ensures { result ≤ 1 }
 {
     let mut space = empty_page();
     let page: &mut [u8] = &mut space;
-    status(page_all(page))
+    status(page_all(rt, page))
 }

@@ -1,7 +1,9 @@
-// The listing program (section 16 of docs/RULES.md), which is in crate `filters`. The kit's programs end with status
-// 0; `./programs` links one with the status that this call answers. Assumes the contracts of the C library's read and
-// write, and nothing else.
+// The listing program (section 16 of docs/RULES.md), which is in crate `filters`; it ends with the status that this call
+// answers. Assumes nothing.
 #![tactic(auto)]
-fn main() {
-    filters::listing_status();
+
+use std::process::ExitCode;
+
+fn main(rt: HostRuntime) -> ExitCode {
+    ExitCode::from(filters::listing_status(&rt) as u8)
 }

@@ -2,6 +2,7 @@
 // for each the line `number,octave,entry` of its answer, put into a page. Reading and writing are the program's.
 // Assumes nothing.
 #![tactic(auto)]
+
 ghost use Rattle.std.specs.Prelude.{◌*◌, ◌≤◌, ◌≡◌, ◌∷◌, length, take};
 ghost use Rattle.text.specs.Text.{Put};
 ghost use Rattle.fields.specs.Line.{after, after_all};

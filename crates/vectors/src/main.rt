@@ -30,8 +30,7 @@
 //
 // A refused query answers its number only. Any other line is answered `malformed` and has no effect; an empty line has
 // no answer. Before the first P the device is one with P 1 and own ID 0, and before the first O the log is one of an
-// order of no channels; O, A and E leave the device as it is, and V leaves device and log. Assumes the contracts of the
-// C library's read and write, and nothing else.
+// order of no channels; O, A and E leave the device as it is, and V leaves device and log. Assumes nothing.
 #![tactic(auto)]
 mod answers;
 mod asked;
@@ -224,19 +223,19 @@ fn all(s: Bench, page: &mut [u8], bytes: &[u8]) -> Bench {
 }
 
 // Writes what is answered, and answers whether that failed.
-fn write_out(page: &[u8], used: usize) -> bool {
-    let o = console::write(page, used);
+fn write_out(rt: &HostRuntime, page: &[u8], used: usize) -> bool {
+    let o = console::write(rt, page, used);
     match o {
         Output::Whole => false,
         Output::Cut(_) => {
-            console::fail(b"vectors: standard output takes no more\n");
+            console::fail(rt, b"vectors: standard output takes no more\n");
             true
         }
     }
 }
 
-fn written(s: Bench, page: &[u8], more: bool) -> Turn {
-    let failed = write_out(page, s.used);
+fn written(rt: &HostRuntime, s: Bench, page: &[u8], more: bool) -> Turn {
+    let failed = write_out(rt, page, s.used);
     Turn {
         more: more & !failed,
         failed: failed,
@@ -254,8 +253,8 @@ fn end(s: Bench, page: &mut [u8]) -> Bench {
     }
 }
 
-fn give_up(s: Bench) -> Turn {
-    console::fail(b"vectors: standard input can't be read\n");
+fn give_up(rt: &HostRuntime, s: Bench) -> Turn {
+    console::fail(rt, b"vectors: standard input can't be read\n");
     Turn {
         more: false,
         failed: true,
@@ -263,25 +262,25 @@ fn give_up(s: Bench) -> Turn {
     }
 }
 
-fn read_once(s: Bench, page: &mut [u8]) -> Turn {
+fn read_once(rt: &HostRuntime, s: Bench, page: &mut [u8]) -> Turn {
     let mut input = [0u8; 256];
-    let got = console::read(&mut input);
+    let got = console::read(rt, &mut input);
     match got {
         Input::Bytes(n) => {
             let after = all(s, page, &input[..n]);
-            written(after, page, true)
+            written(rt, after, page, true)
         }
         Input::End => {
             let last = end(s, page);
-            written(last, page, false)
+            written(rt, last, page, false)
         }
-        Input::Unreadable => give_up(s),
+        Input::Unreadable => give_up(rt, s),
     }
 }
 
 // A proved loop has to end, so the turns are counted down from a number that no input uses up. Answers whether reading
 // or writing failed.
-fn read_all(s: Bench, page: &mut [u8]) -> bool {
+fn read_all(rt: &HostRuntime, s: Bench, page: &mut [u8]) -> bool {
     let mut turns = u64::MAX;
     let mut k = s;
     let mut more = true;
@@ -291,7 +290,7 @@ fn read_all(s: Bench, page: &mut [u8]) -> bool {
             return true;
         }
         turns -= 1;
-        let t = read_once(k, page);
+        let t = read_once(rt, k, page);
         more = t.more;
         failed = t.failed;
         let next = t.bench;
@@ -300,7 +299,7 @@ fn read_all(s: Bench, page: &mut [u8]) -> bool {
     failed
 }
 
-fn run_all(page: &mut [u8]) -> bool {
+fn run_all(rt: &HostRuntime, page: &mut [u8]) -> bool {
     let o = device::start(1, 0);
     let d = o.device;
     let log = arranging::begin(b"");
@@ -311,11 +310,11 @@ fn run_all(page: &mut [u8]) -> bool {
         device: d,
         log: log,
     };
-    read_all(s, page)
+    read_all(rt, s, page)
 }
 
-fn main() {
+fn main(rt: HostRuntime) {
     let mut space = empty_page();
     let page: &mut [u8] = &mut space;
-    run_all(page);
+    run_all(&rt, page);
 }
