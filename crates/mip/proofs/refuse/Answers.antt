@@ -3,12 +3,8 @@
 use mathlib.Core.Path.{refl}
 use Rattle.loops.specs.Passes.{padded}
 use Rattle.table.specs.Table.{table_of}
-use Rattle.mip.proofs.refuse.Statement.{statement}
-use Rattle.mip.proofs.refuse.Tie as tie
+use Rattle.mip.proofs.refuse.Goals as goal
 
-returns : tie.Need-returns
+pub returns : goal.returns
 unfolding table_of padded
 returns c = refl
-
-pub refuse-spec : {M : Type 1} → statement M
-refuse-spec = tie.close (tie.spec returns)
