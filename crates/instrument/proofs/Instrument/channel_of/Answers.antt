@@ -9,37 +9,23 @@ use Rattle.channels.specs.Channel.{fresh}
 use Rattle.instrument.specs.Instrument.{channel_at, channel_of}
 use Rattle.instrument.proofs.Elements.{any_default}
 use Rattle.instrument.proofs.Sizes.{channels_16}
-use borrow.Author.Rules.{rules}
-use Rattle.instrument.proofs.Instrument.channel_of.Statement.{statement}
-use Rattle.instrument.proofs.Instrument.channel_of.Tie as tie
+use Rattle.instrument.proofs.Instrument.channel_of.Goals as goal
 
-returns : tie.Need-returns
+pub returns-then-place-lt16 : goal.returns-then-place-lt16
+unfolding channel_of channel_at
+returns-then-place-lt16 c =
+    let b = c in
+    let s = b in
+    let l = s.args.self.channels in
+    let n = channels_16 s.args.self s.well_formed.0 in
+    any_default _ fresh l b.less-place.result (omega arith) ∙ ap (λ (k : ℕ). get_or l k fresh) b.less-place.ensures
+
+pub returns : goal.returns
 unfolding channel_of channel_at
 returns c =
-    let b = c.before.before in
-    let s = b.before.before in
+    let b = c in
+    let s = b in
     let l = s.args.self.channels in
     let n = channels_16 s.args.self s.well_formed.0 in
-    any_default _ fresh l b.less.result (omega arith) ∙ ap (λ (k : ℕ). get_or l k fresh) b.less.ensures
-
-returns-2 : tie.Need-returns-2
-unfolding channel_of channel_at
-returns-2 c =
-    let b = c.before.before in
-    let s = b.before.before in
-    let l = s.args.self.channels in
-    let n = channels_16 s.args.self s.well_formed.0 in
-    let h : length l ≤ s.args.channel - 1 = omega (arith, b.less.ensures) in
+    let h : length l ≤ s.args.channel - 1 = omega (arith, b.less-place.ensures) in
     c.fresh.ensures ∙ sym (get_or-eq_default l fresh h)
-
-pub channel-of-spec : {M : Type 1} → statement M
-channel-of-spec =
-    tie.close
-    (tie.spec
-    (λ c κs. search rules)
-    (λ c. search rules)
-    (λ c. search rules)
-    (λ c. search rules)
-    returns
-    (λ c κs. search rules)
-    returns-2)
