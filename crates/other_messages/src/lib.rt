@@ -1,6 +1,7 @@
 // What a note-off, a controller and a program change do to the sound module (R6.2, R6.4, R6.7 to R6.16), by value, for
 // every value. No mask is looked at here. Assumes nothing.
 #![tactic(auto)]
+
 ghost use Rattle.std.specs.Prelude.{◌≡◌};
 ghost use Rattle.other_messages.specs.OtherMessages.{notes_after, play_note_off, play_control};
 ghost use Rattle.other_messages.specs.OtherMessages.{kind_set, play_program};
