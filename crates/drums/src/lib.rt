@@ -1,5 +1,6 @@
 // Which drums exclude each other (R5.3, R5.4), for every key value. Assumes nothing.
 #![tactic(auto)]
+
 ghost use Rattle.std.specs.Prelude.{◌≡◌};
 ghost use Rattle.drums.specs.Drums.{group_of, excludes};
 

@@ -7,7 +7,7 @@ use Prim.Native.Nat.{ℕ}
 use native.Mathlib.Omega.{arith}
 use mir.Val.{Val}
 use denote.Laws.{Is}
-use lib.ListN.{length, take, get_or, length-map, length-take}
+use lib.ListN.{length, take, get_or, length-take}
 use Rattle.event_line.specs.declared.Line.{Line}
 use Rattle.event_line.specs.Log.{event_of}
 use Rattle.event_line.specs.Parse.{parse}
@@ -15,7 +15,7 @@ use Rattle.event_line.specs.contracts.Line as T
 use Rattle.event_line.proofs.Lines.{event_parse}
 
 pub bytes_7 : (l : Line) {vs : List Val} → Is T.the_row l vs → length l.bytes ≡ 7
-bytes_7 l g = simp length-map at g.1.1.1.0.1.0.1
+bytes_7 l g = g.1.1.1.0.1.0.1
 
 module _ (l : List ℕ) (n : ℕ) (size : length l ≡ 7) where
   pub said_4 : n ≡ 4 → event_of (take n l) ≡ parse (get_or l 0 0 ∷ get_or l 1 0 ∷ get_or l 2 0 ∷ get_or l 3 0 ∷ [])

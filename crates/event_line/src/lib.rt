@@ -1,5 +1,6 @@
 // A line of a song's log (R14.1): which event it says, for every text. Assumes nothing.
 #![tactic(auto)]
+
 ghost use Rattle.std.specs.Prelude.{◌≡◌, [], ◌∷◌};
 ghost use Rattle.event_line.specs.Log.{blank, put, text_of, event_of, meaning_of};
 ghost use Rattle.event_line.specs.Parse.{is_digit, right, event_by, parse};

@@ -4,7 +4,7 @@
 -- Assumes nothing.
 use Rattle.std.specs.Prelude.{if◌then◌else◌}
 use mathlib.Core.Path.{◌≡◌, refl, sym, ◌∙◌}
-use mathlib.Core.Bool.{Bool, true, false}
+use mathlib.Core.Bool.{Bool, true, false, not, ◌&&◌}
 use mathlib.Core.List.{List, [], ◌∷◌}
 use Prim.Native.Nat.{ℕ, zero, suc, ◌+◌, ◌≤◌}
 use native.Mathlib.Omega.{arith}
@@ -17,6 +17,7 @@ use Rattle.loops.proofs.Totals.{total_bits}
 use Rattle.loops.proofs.Tests.{impossible}
 use Rattle.splitter.specs.Split.{begun, split}
 use Rattle.message.specs.declared.Message.TheVariants.{NoteOn, NoteOff, Control, Program, Bend, Other}
+use Rattle.table.specs.Table.{entries_of}
 use Rattle.instrument.specs.declared.Instrument.{Instrument}
 use Rattle.playing.specs.declared.Answer.{Answer}
 use Rattle.playing.specs.declared.Answer.TheVariants as answer
@@ -32,6 +33,7 @@ use Rattle.device.specs.Device.{fresh_device, byte_taken}
 use Rattle.events.specs.declared.Event.TheVariants.{Byte}
 use Rattle.events.specs.Events.{taken}
 use Rattle.note_book.specs.Book.{Slot, empty, note, is_note, Book, with_holds, with_bank, with_rhythm, is_done, is_rhythm}
+use Rattle.note_book.specs.Book.{pedal_down, is_down, is_on_pedal, is_of_key, is_of_masked, with_table}
 use Rattle.note_book.specs.Book.{is_of, is_ended, all_freed, put, remaining, keep_note_on, notes_after}
 use Rattle.note_book.specs.Book.{keep_control, kind_kept, keep_program, keep_message, keep_report, Heard, message, keep}
 use Rattle.note_book.specs.Claim.{Both, Live}
@@ -79,9 +81,10 @@ calm_control : (b : Book) (c n v : ℕ) → Calm b (keep_control b c n v)
 calm_control b c n v =
     calm_bank b _ _
     (calm_holds b (notes_after b c n v) _
-    (by_both (Calm b) (lifts_pedal n v) _ _ (calm_freed _ _ b)
-    (by_both (Calm b) (silences_all n v) _ _ (calm_freed _ _ b)
-    (by_both (Calm b) (ends_all n v) _ _ (calm_freed _ _ b) (calm_same b)))))
+    (by_both (Calm b) (lifts_pedal n v) _ _ (calm_freed (λ s. is_on_pedal s && is_of c s) false b)
+    (by_both (Calm b) (silences_all n v) _ _ (calm_freed (is_of c) false b)
+    (by_both (Calm b) (ends_all n v) _ _
+    (calm_freed (λ s. is_down s && is_of c s) (pedal_down b c && not (is_rhythm b c)) b) (calm_same b)))))
 
 calm_kind : (b : Book) (r : Bool) → Calm b (kind_kept b r)
 calm_kind b r =
@@ -146,13 +149,15 @@ unfolding keep keep_message played
 step i j b h a (right-nothing x n) m = of_calm b b _ x (calm_same b) (unnamed x n)
 step i j b h a (right-message (NoteOn c k) s) m = step_on b c k _ (note_law i b m c k).outcome
 step i j b h a (right-message (NoteOff c k) s) m =
-    of_calm b _ _ answer.Done (by_both (Calm b) (is_rhythm b c) _ _ (calm_same b) (calm_freed _ _ b)) refl
+    of_calm b _ _ answer.Done (by_both (Calm b) (is_rhythm b c) _ _ (calm_same b)
+    (calm_freed (λ s. is_down s && is_of_key c k s) (pedal_down b c) b)) refl
 step i j b h a (right-message (Control c n v) s) m = of_calm b _ _ answer.Done (calm_control b c n v) refl
 step i j b h a (right-message (Program c n) s) m = of_calm b _ _ answer.Done (calm_program b c) refl
 step i j b h a (right-message (Bend c x y) s) m = of_calm b b _ answer.Done (calm_same b) refl
 step i j b h a (right-message Other s) m = of_calm b b _ answer.Done (calm_same b) refl
 step i j b h a (right-table t w) m =
-    of_calm b _ _ answer.Done (record { same = refl; fewer = in_freed b.polyphony _ false b.notes }) refl
+    let f = is_of_masked (with_table b (entries_of t)) in
+    of_calm b _ _ answer.Done (record { same = refl; fewer = in_freed b.polyphony f false b.notes }) refl
 step i j b h a right-reset m =
     of_calm b _ _ answer.Done (record { same = refl; fewer = let z = in_none b.polyphony in omega arith }) refl
 step i j b h a (right-report g) m =

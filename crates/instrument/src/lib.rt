@@ -1,6 +1,7 @@
 // The record of the sound module without its parser: what acts on a whole message works on it (R1.10, R1.11). By
 // value, for every value. Assumes nothing.
 #![tactic(auto)]
+
 ghost use Rattle.std.specs.Prelude.{◌≡◌};
 ghost use Rattle.instrument.specs.Instrument.{fresh_channels, fresh, replaced, channel_of, with_channel};
 ghost use Rattle.instrument.specs.Instrument.{with_kind, with_generators, pedal_down, is_rhythm};

@@ -2,6 +2,7 @@
 // value.
 // Assumes nothing.
 #![tactic(auto)]
+
 ghost use Rattle.std.specs.Prelude.{◌≡◌, ◌&&◌, not, ℕ, ◌<◌, eqb, get_or, if◌then◌else◌};
 ghost use Rattle.loops.specs.Passes.{up_to, marks_of};
 ghost use Rattle.generators.specs.Generators.{generator, releasing, is_busy};

@@ -1,6 +1,7 @@
 // The judgement of a MIP message (R3.3 to R3.5), by the parser that its F7 found, for every value of it. Assumes
 // nothing.
 #![tactic(auto)]
+
 ghost use Rattle.std.specs.Prelude.{◌≡◌, ◌≤◌, drop};
 ghost use Rattle.splitter.specs.Split.{body};
 ghost use Rattle.mip.specs.Mip.{pairs, refused, judged_pairs, judged, pushed};

@@ -4,7 +4,7 @@
 -- Assumes nothing.
 use Rattle.std.specs.Prelude.{if◌then◌else◌}
 use mathlib.Core.Path.{◌≡◌, refl, sym, ap, ◌∙◌, subst}
-use mathlib.Core.Bool.{Bool, true, false, not, false≢true}
+use mathlib.Core.Bool.{Bool, true, false, not, ◌&&◌, false≢true}
 use mathlib.Core.List.{List, [], ◌∷◌}
 use Prim.Native.Nat.{ℕ, zero, suc, ◌+◌, ◌≤◌}
 use native.Mathlib.Omega.{arith}
@@ -31,7 +31,8 @@ use Rattle.channels.specs.Channel.{rhythm_by}
 use Rattle.controllers.specs.Controllers.{lifts_pedal, silences_all, ends_all}
 use Rattle.reports.specs.Reports.{reported}
 use Rattle.exclusive.specs.Exclusive as of-exclusive
-use Rattle.note_book.specs.Book.{Slot, empty, note, Book, is_done, share_of, is_rhythm, is_of}
+use Rattle.note_book.specs.Book.{Slot, empty, note, Book, is_done, share_of, is_rhythm, pedal_down}
+use Rattle.note_book.specs.Book.{is_down, is_on_pedal, is_of, is_of_key}
 use Rattle.note_book.specs.Book.{with_holds, with_bank, with_rhythm, is_ended, freed, all_freed, put}
 use Rattle.note_book.specs.Book.{remaining, keep_note_on, notes_after, keep_control, kind_kept, keep_program}
 use Rattle.note_book.specs.Book.{keep_message, keep_report, Heard, nothing, message, new_table, reset, report}
@@ -138,9 +139,10 @@ tame_control : (b : Book) (c n v : ℕ) → Tamer b (keep_control b c n v)
 tame_control b c n v =
     tame_bank b _ _
     (tame_holds b (notes_after b c n v) _
-    (by_both (Tamer b) (lifts_pedal n v) _ _ (tame_freed _ _ b)
-    (by_both (Tamer b) (silences_all n v) _ _ (tame_freed _ _ b)
-    (by_both (Tamer b) (ends_all n v) _ _ (tame_freed _ _ b) (tame_same b)))))
+    (by_both (Tamer b) (lifts_pedal n v) _ _ (tame_freed (λ s. is_on_pedal s && is_of c s) false b)
+    (by_both (Tamer b) (silences_all n v) _ _ (tame_freed (is_of c) false b)
+    (by_both (Tamer b) (ends_all n v) _ _
+    (tame_freed (λ s. is_down s && is_of c s) (pedal_down b c && not (is_rhythm b c)) b) (tame_same b)))))
 
 tame_kind : (b : Book) (r : Bool) → Tamer b (kind_kept b r)
 tame_kind b r =
@@ -230,10 +232,10 @@ within_tame c b b' t w = rw (t.same-polyphony, t.same-table) (within_less (share
 abbrev Within : ℕ → Book → Type 0
 Within c b = IsWithin (share_of b c) (notes_on b.polyphony c b.notes)
 
-outcome_of : (i j : Instrument) (b : Book) → Matches i b → (c k : ℕ) (a : Answer)
+outcome_of : (i : Instrument) (b : Book) → Matches i b → (c k : ℕ) (a : Answer) (j : Instrument)
     → Right i b (message (NoteOn c k)) a j → Outcome b c k a
 unfolding played
-outcome_of i j b m c k a (right-message x s) = (note_law i b m c k).outcome
+outcome_of i b m c k a j (right-message x s) = (note_law i b m c k).outcome
 
 -- a claim at note-ons, at whatever is heard
 pub at-note_ons : (F : ℕ → ℕ → Type 0) (h : Heard) → ((c k : ℕ) → h ≡ message (NoteOn c k) → F c k) → AtNoteOn F h
@@ -253,9 +255,10 @@ module _ (i j : Instrument) (b : Book) (m : Matches i b) where
       → IsInRun h → Within c b → AtNoteOn (Keeps c b a) h → Within c (keep b h a)
   unfolding keep keep_message
   within-heard c nothing a r n w k = w
-  within-heard c (message (NoteOn d x)) a r n w k = within_on b c d x w k a (outcome_of i j b m d x a r)
+  within-heard c (message (NoteOn d x)) a r n w k = within_on b c d x w k a (outcome_of i b m d x a j r)
   within-heard c (message (NoteOff d x)) a r n w k =
-      within_tame c b _ (by_both (Tamer b) (is_rhythm b d) _ _ (tame_same b) (tame_freed _ _ b)) w
+      within_tame c b _ (by_both (Tamer b) (is_rhythm b d) _ _ (tame_same b)
+      (tame_freed (λ s. is_down s && is_of_key d x s) (pedal_down b d) b)) w
   within-heard c (message (Control d x v)) a r n w k = within_tame c b _ (tame_control b d x v) w
   within-heard c (message (Program d x)) a r n w k = within_tame c b _ (tame_program b d) w
   within-heard c (message (Bend d x y)) a r n w k = w
@@ -266,13 +269,13 @@ module _ (i j : Instrument) (b : Book) (m : Matches i b) where
 
   fair-heard : (h : Heard) (a : Answer) → Right i b h a j → AtNoteOn (Fair b a) h
   fair-heard h a r = at-note_ons (Fair b a) h
-      (λ c k e. fair_on b c k a (outcome_of i j b m c k a (subst (λ (x : Heard). Right i b x a j) e r)))
+      (λ c k e. fair_on b c k a (outcome_of i b m c k a j (subst (λ (x : Heard). Right i b x a j) e r)))
 
   safe-heard : (c : ℕ) (h : Heard) (a : Answer) → Right i b h a j
       → Within c b → AtNoteOn (Keeps c b a) h → AtNoteOn (Safe c b a) h
   safe-heard c h a r w k =
       at-note_ons (Safe c b a) h (λ d x e. safe-on b c d x w (subst (AtNoteOn (Keeps c b a)) e k) a
-      (outcome_of i j b m d x a (subst (λ (y : Heard). Right i b y a j) e r)))
+      (outcome_of i b m d x a j (subst (λ (y : Heard). Right i b y a j) e r)))
 
 -- ---- the list
 

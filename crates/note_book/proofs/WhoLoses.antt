@@ -17,24 +17,24 @@ use Rattle.note_book.proofs.Matches.{Matches, note_law}
 use Rattle.note_book.proofs.Run.{Right, right-message, at-note_ons, Lawful, Fine, fine_next}
 use Rattle.note_book.proofs.Age as by-age
 
-foretold_on : (i j : Instrument) (b : Book) → Matches i b → (c k : ℕ) (a : Answer)
+foretold_on : (i : Instrument) (b : Book) → Matches i b → (c k : ℕ) (a : Answer) (j : Instrument)
     → Right i b (message (NoteOn c k)) a j → (l : List ℕ) → Follows i.generators l → Foretold l b a c k
 unfolding played
-foretold_on i j b m c k a (right-message x s) l f = (note_law i b m c k).foretold l f
+foretold_on i b m c k a j (right-message x s) l f = (note_law i b m c k).foretold l f
 
-pedal_first_on : (i j : Instrument) (b : Book) → Matches i b → (c k : ℕ) (a : Answer)
+pedal_first_on : (i : Instrument) (b : Book) → Matches i b → (c k : ℕ) (a : Answer) (j : Instrument)
     → Right i b (message (NoteOn c k)) a j → PedalFirst b a c k
 unfolding played
-pedal_first_on i j b m c k a (right-message x s) = (note_law i b m c k).pedal_first
+pedal_first_on i b m c k a j (right-message x s) = (note_law i b m c k).pedal_first
 
 module _ (i j : Instrument) (b : Book) (m : Matches i b) (h : Heard) (a : Answer) (r : Right i b h a j) where
   foretold-heard : (l : List ℕ) → Follows i.generators l → AtNoteOn (Foretold l b a) h
   foretold-heard l f = at-note_ons (Foretold l b a) h
-      (λ c k e. foretold_on i j b m c k a (subst (λ (x : Heard). Right i b x a j) e r) l f)
+      (λ c k e. foretold_on i b m c k a j (subst (λ (x : Heard). Right i b x a j) e r) l f)
 
   pedal-first-heard : AtNoteOn (PedalFirst b a) h
   pedal-first-heard = at-note_ons (PedalFirst b a) h
-      (λ c k e. pedal_first_on i j b m c k a (subst (λ (x : Heard). Right i b x a j) e r))
+      (λ c k e. pedal_first_on i b m c k a j (subst (λ (x : Heard). Right i b x a j) e r))
 
 module _ (S : System) (L : Lawful S) where
   run-foretold : (s : S.State) → Fine S L s → (l : List ℕ)

@@ -1,6 +1,7 @@
 // Generators that fall silent (R5.3, R6.10, R7.1), by value, for every value, in a few passes however many they are.
 // Assumes nothing.
 #![tactic(auto)]
+
 ghost use Rattle.std.specs.Prelude.{◌≡◌, eqb, get_or, if◌then◌else◌};
 ghost use Rattle.loops.specs.Passes.{up_to, marks_of};
 ghost use Rattle.generators.specs.Generators.{generator};

@@ -1,6 +1,7 @@
 // Who loses a note (R5.7 to R5.10): the channel to steal from, and the generator that is stolen, for every value of
 // the generators and of the table. Assumes nothing.
 #![tactic(auto)]
+
 ghost use Rattle.std.specs.Prelude.{◌≡◌, ◌-◌, ◌&&◌, leb, ltb};
 ghost use Rattle.stealing.specs.Stealing.{counted, steal_from, victim};
 

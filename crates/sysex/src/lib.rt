@@ -1,6 +1,7 @@
 // SysEx: what an ended one is to us (R3.1, R3.2, R3.6, R3.7), by the parser that the F7 found, which holds the SysEx's
 // data bytes, for every value of it. A MIP message is judged in crate mip. Assumes nothing.
 #![tactic(auto)]
+
 ghost use Rattle.std.specs.Prelude.{◌≡◌};
 ghost use Rattle.splitter.specs.Split.{body};
 ghost use Rattle.sysex.specs.SysEx.{starts_with, kind_of};

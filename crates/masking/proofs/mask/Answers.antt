@@ -1,0 +1,9 @@
+-- `masking::mask` meets its contract: the marks are those of the newly masked channels.
+-- Assumes nothing.
+use Rattle.masking.proofs.Marked.{mask_of}
+use Rattle.masking.proofs.mask.Goals as goal
+
+pub returns : goal.returns
+returns c =
+    let a = c.args in
+    simp (c.release-after.ensures, c.marks.ensures) (mask_of a.polyphony a.old a.new a.generators)

@@ -1,0 +1,71 @@
+-- `masking::unmasked` meets its contract. Invariant: a channel has a mark, or is unmasked by an entry from i on,
+-- exactly where the table unmasks it.
+-- Assumes nothing.
+use Prim.Native.Nat.{ℕ}
+use mathlib.Core.Path.{refl, ap, ◌∙◌}
+use mathlib.Core.List.{List}
+use native.Mathlib.Omega.{arith}
+use lib.ListN.{length-set}
+use Rattle.table.specs.declared.Entry.{Entry}
+use Rattle.shares.specs.Shares.{lookup, shares_from, share_of, is_masked}
+use Rattle.table.proofs.Sizes.{entries_16}
+use Rattle.table.proofs.Walk.{all_entries}
+use Rattle.masking.proofs.Plays.{marked_none, marked_next, marked_end}
+use Rattle.masking.proofs.unmasked.Goals as goal
+
+-- NO GOAL overflow-cast-n
+-- cast-n c = omega arith
+
+pub loop-i-init : goal.loop-i-init
+loop-i-init c = let s = c in (
+  omega arith,
+  omega arith,
+  entries_16 s.args.table s.well_formed.0,
+  refl,
+  marked_none s.args.polyphony s.args.table.entries c.at_most-n.result,
+)
+
+-- NO GOAL overflow-mul-e
+-- mul-e c = omega arith
+
+pub bounds-entries-i : goal.bounds-entries-i
+bounds-entries-i c = omega arith
+
+pub bounds-out-mark : goal.bounds-out-mark
+bounds-out-mark c = c.place-mark.ensures.1
+
+pub bounds-out-mark-in-loop-i : goal.bounds-out-mark-in-loop-i
+bounds-out-mark-in-loop-i c = c.place-mark.ensures.1
+
+-- NO GOAL overflow-add-i
+-- add-i c = omega arith
+
+pub loop-i-smaller : goal.loop-i-smaller
+loop-i-smaller c = omega arith
+
+pub loop-i-preserved : goal.loop-i-preserved
+loop-i-preserved c =
+    let b = c in
+    let n = b.at_most-n in
+    let a = b.args in
+    let k = c.place-mark in
+    let s = length-set {A = ℕ} b.loop-i.out k.result c.if_else.result in (
+      omega arith,
+      omega arith,
+      b.loop-i.invariant.2,
+      s ∙ b.loop-i.invariant.3,
+      marked_next a.polyphony a.table.entries n.result b.loop-i.i k.result
+          c.if_else.result b.loop-i.out (omega arith) (omega arith)
+          k.ensures.0 (omega arith) c.if_else.ensures b.loop-i.invariant.4,
+    )
+
+pub returns : goal.returns
+unfolding share_of
+returns c =
+    let b = c in
+    let n = b.at_most-n in
+    let a = b.args in
+    λ k h. marked_end a.polyphony a.table.entries n.result
+    b.loop-i.i 0 b.loop-i.out (omega arith) b.loop-i.invariant.4 k h
+    ∙ ap (λ (l : List Entry). is_masked (lookup k (shares_from a.polyphony 0 l)))
+    (all_entries a.table n.result b.loop-i.invariant.2 n.ensures.0)

@@ -1,0 +1,61 @@
+-- `stealing::steal_from` meets its contract. Invariant: the answer for the first i entries is the answer for all. The
+-- measure is i.
+-- Assumes nothing.
+use Prim.Native.Nat.{◌<◌}
+use mathlib.Core.Path.{◌≡◌, refl, sym, ap, ◌∙◌}
+use native.Mathlib.Omega.{arith}
+use Rattle.loops.proofs.Padded.{take-at_most}
+use Rattle.shares.specs.Shares.{shares_from}
+use Rattle.table.proofs.Sizes.{entries_16}
+use Rattle.stealing.specs.Stealing.{counted, over_share, to_loser, steal_from}
+use Rattle.stealing.proofs.Backward.{over_yes, over_no}
+use Rattle.stealing.proofs.steal_from.Goals as goal
+
+pub loop-i-init : goal.loop-i-init
+loop-i-init c =
+    let a = c in
+    (omega (arith, c.at_most-i.ensures.1), entries_16 a.args.table a.well_formed.1.0, refl)
+
+-- NO GOAL overflow-mul-x
+-- mul-x c = omega (arith, c.less.ensures, c.before.before.before.loop.invariant.0)
+
+pub bounds-entries-less : goal.bounds-entries-less
+bounds-entries-less c = omega (arith, c.less.ensures, c.loop-i.invariant.0)
+
+pub returns-then-is_over : goal.returns-then-is_over
+unfolding steal_from
+returns-then-is_over c =
+    let d = c in
+    let b = d in
+    let a = b.args in
+    let m = b.at_most-i in
+    let h : 0 < b.loop-i.i = d.loop-i-test.true in
+    let t = rw (d.if_else-before.ensures, d.less.ensures)
+    at (sym c.is_over.ensures ∙ c.if-is_over.true) in
+    rw (← (take-at_most 16 a.table.count a.table.entries b.loop-i.invariant.1), ← m.ensures.0)
+    (ap to_loser (over_yes a.polyphony (counted a.generators a.channel)
+    a.table.entries b.loop-i.i h (omega arith) _ b.loop-i.invariant.2 t))
+
+pub loop-i-preserved : goal.loop-i-preserved
+loop-i-preserved c =
+    let d = c in
+    let b = d in
+    let a = b.args in
+    let h : 0 < b.loop-i.i = d.loop-i-test.true in
+    let t = rw (d.if_else-before.ensures, d.less.ensures)
+    at (sym c.is_over.ensures ∙ c.if-is_over.false) in (
+      omega arith,
+      b.loop-i.invariant.1,
+      over_no a.polyphony (counted a.generators a.channel)
+          a.table.entries b.loop-i.i h (omega arith) _ b.loop-i.invariant.2 t,
+    )
+
+pub returns : goal.returns
+unfolding steal_from shares_from over_share
+returns c =
+    let b = c in
+    let a = b.args in
+    let m = b.at_most-i in
+    let e : b.loop-i.i ≡ 0 = omega arith in
+    rw (← (take-at_most 16 a.table.count a.table.entries b.loop-i.invariant.1), ← m.ensures.0)
+    (ap to_loser (rw e at b.loop-i.invariant.2))
