@@ -1,6 +1,7 @@
 // Which generator a note gets (R5.1 to R5.11): steps 1 to 5 and the assignment, by value, for every value of the
 // generators and of the table. Assumes nothing.
 #![tactic(auto)]
+
 ghost use Rattle.std.specs.Prelude.{◌≡◌};
 ghost use Rattle.allocation.specs.Allocation.{cleared, choice, note_on};
 

@@ -13,9 +13,6 @@ use Rattle.table.proofs.Walk.{all_entries}
 use Rattle.masking.proofs.Plays.{marked_none, marked_next, marked_end}
 use Rattle.masking.proofs.unmasked.Goals as goal
 
--- NO GOAL overflow-cast-n
--- cast-n c = omega arith
-
 pub loop-i-init : goal.loop-i-init
 loop-i-init c = let s = c in (
   omega arith,
@@ -25,9 +22,6 @@ loop-i-init c = let s = c in (
   marked_none s.args.polyphony s.args.table.entries c.at_most-n.result,
 )
 
--- NO GOAL overflow-mul-e
--- mul-e c = omega arith
-
 pub bounds-entries-i : goal.bounds-entries-i
 bounds-entries-i c = omega arith
 
@@ -36,9 +30,6 @@ bounds-out-mark c = c.place-mark.ensures.1
 
 pub bounds-out-mark-in-loop-i : goal.bounds-out-mark-in-loop-i
 bounds-out-mark-in-loop-i c = c.place-mark.ensures.1
-
--- NO GOAL overflow-add-i
--- add-i c = omega arith
 
 pub loop-i-smaller : goal.loop-i-smaller
 loop-i-smaller c = omega arith

@@ -16,9 +16,6 @@ loop-i-init c =
     let a = c in
     (omega (arith, c.at_most-i.ensures.1), entries_16 a.args.table a.well_formed.1.0, refl)
 
--- NO GOAL overflow-mul-x
--- mul-x c = omega (arith, c.less.ensures, c.before.before.before.loop.invariant.0)
-
 pub bounds-entries-less : goal.bounds-entries-less
 bounds-entries-less c = omega (arith, c.less.ensures, c.loop-i.invariant.0)
 
