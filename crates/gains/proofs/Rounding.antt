@@ -98,7 +98,8 @@ dropped s h = omega arith
 
 few : (a c : ℕ) → 0 < c → a ≤ c → drop 24 (a * U) c ≤ 126
 few a c pos h =
-    dropped (size (a * U / c)) (size-le (a * U / c) 150 ((div-lt_iff_lt-mul pos).1 (lt_of_le_of_lt (mul-le-mul_right U h)
+    dropped (size (a * U / c)) (size-le (a * U / c) 150 ((div-lt_iff_lt-mul pos).1
+    (lt_of_le_of_lt (mul-le-mul_right U h)
     (subst (λ (z : ℕ). z < 2 ^ 150 * c) (mul_comm U c) (mul-lt-mul_of_pos_right (lit< tt) pos)))))
 
 grid_close : (a c : ℕ) → 0 < c → a ≤ c → Close U (grid binary32 a c) a c H

@@ -83,7 +83,9 @@ over p h = let w = get_or weights p 0 in leb→le _ _ (both_left (leb (squares p
 
 under : (p : ℕ) → p < 127 → 1073741824 ≤ weight p * weight p + weight (126 - p) * weight (126 - p) + 46342
 unfolding weight near?
-under p h = let w = get_or weights p 0 in leb→le _ _ (both_right (leb (squares p w) (1073741824 + 46342)) _ (nearby p h))
+under p h =
+    let w = get_or weights p 0 in
+    leb→le _ _ (both_right (leb (squares p w) (1073741824 + 46342)) _ (nearby p h))
 
 pub as_many : length weights ≡ 127
 as_many = refl

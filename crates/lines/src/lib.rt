@@ -1,5 +1,6 @@
 // The lines in which programs list answers (R16.3 to R16.7), put into a page. Assumes nothing.
 #![tactic(auto)]
+
 ghost use Rattle.std.specs.Prelude.{◌++◌};
 ghost use Rattle.text.specs.Text.{Put};
 ghost use Rattle.lines.specs.Lines.{field, offset_field, dashes, was, note_fields, no_note_fields, line_of};

@@ -90,7 +90,12 @@ module _ (l : List ℕ) (n i v : ℕ) (before : List Entry) (all : Judged) (h : 
     unfolding faulty
     good_pair c after q =
         rw (q, append_assoc)
-        (rw (pairs_next l n i h k, le-ltb 16 (get_or l i 0 + 1) (omega arith), b, le-ltb (get_or l (i + 1) 0) v c) at so)
+        (rw (
+          pairs_next l n i h k,
+          le-ltb 16 (get_or l i 0 + 1) (omega arith),
+          b,
+          le-ltb (get_or l (i + 1) 0) v c,
+        ) at so)
 
 -- no pair is left
 pub no_pair : (l : List ℕ) (n i v : ℕ) (t : Table) (all : Judged) → n ≤ i + 1 → t ≡ table_of (entries_of t)

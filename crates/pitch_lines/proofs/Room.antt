@@ -14,7 +14,7 @@ use Rattle.loops.specs.Cases.{or_zero}
 use Rattle.text.specs.Text.{decimal}
 use Rattle.pitch.specs.declared.PitchAnswer.{PitchAnswer}
 use Rattle.pitch.specs.declared.PitchAnswer.TheVariants.{Sounds, OutOfRange}
-use Rattle.pitch.specs.Pitch.{rest, position, entry, pitch_at, is_out, pitch_of, pitch_number, pitch_in}
+use Rattle.pitch.specs.Pitch.{rest, position, pitch_at, is_out, pitch_of, pitch_number, pitch_in}
 use Rattle.pitch.proofs.Roots.{entry_at, to_twice}
 use Rattle.pitch.proofs.Rising.{octave_range}
 use Rattle.fields.specs.declared.Line.{Line}

@@ -1,7 +1,8 @@
 -- Section 4 of docs/RULES.md: how a stream of bytes is split into messages. Pure MIDI 1.0: nothing here knows a
 -- polyphony, an own ID or a table. R4.14: a parser holds the status byte in force (0: none), how many data bytes have
 -- come since, and these bytes; of a SysEx the first 37, counted to 37, since no message that counts is longer than 36.
-use Rattle.std.specs.Prelude.{ℕ, ◌+◌, Bool, ◌&&◌, ◌||◌, not, List, get_or, set, take, replicate, eqb, leb, ltb, if◌then◌else◌}
+use Rattle.std.specs.Prelude.{ℕ, ◌+◌, Bool, ◌&&◌, ◌||◌, not, eqb, leb, ltb, if◌then◌else◌}
+use Rattle.std.specs.Prelude.{List, get_or, set, take, replicate}
 use Rattle.std.proofs.Math.Option.{Option, some, none}
 use Rattle.splitter.specs.declared.Parser.{Parser}
 use Rattle.splitter.specs.declared.Completed.{Completed}

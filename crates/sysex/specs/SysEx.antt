@@ -8,7 +8,8 @@ abbrev pub is_for_us : ℕ → ℕ → Bool
 is_for_us id d = eqb d 0x7F || eqb d id
 
 abbrev pub starts_with : ℕ → ℕ → ℕ → ℕ → List ℕ → Bool
-starts_with id a b c l = eqb (get_or l 0 0) a && (is_for_us id (get_or l 1 0) && (eqb (get_or l 2 0) b && eqb (get_or l 3 0) c))
+starts_with id a b c l =
+    eqb (get_or l 0 0) a && (is_for_us id (get_or l 1 0) && (eqb (get_or l 2 0) b && eqb (get_or l 3 0) c))
 
 -- R3.1: the head of a MIP message
 unfoldable pub is_mip : ℕ → List ℕ → Bool

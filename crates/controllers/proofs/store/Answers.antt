@@ -14,7 +14,9 @@ use Rattle.controllers.specs.Controllers.{stored}
 use Rattle.controllers.proofs.store.Goals as goal
 
 -- a number that is not stored
-unstored : (c : Channel) (n v : ℕ) → (n ≡ 0 → ⊥) → (n ≡ 1 → ⊥) → (n ≡ 6 → ⊥) → (n ≡ 7 → ⊥) → (n ≡ 10 → ⊥) → (n ≡ 11 → ⊥) → (n ≡ 32 → ⊥) → (n ≡ 64 → ⊥) → (n ≡ 98 → ⊥) → (n ≡ 99 → ⊥) → (n ≡ 100 → ⊥) → (n ≡ 101 → ⊥)
+unstored : (c : Channel) (n v : ℕ)
+    → (n ≡ 0 → ⊥) → (n ≡ 1 → ⊥) → (n ≡ 6 → ⊥) → (n ≡ 7 → ⊥) → (n ≡ 10 → ⊥) → (n ≡ 11 → ⊥)
+    → (n ≡ 32 → ⊥) → (n ≡ 64 → ⊥) → (n ≡ 98 → ⊥) → (n ≡ 99 → ⊥) → (n ≡ 100 → ⊥) → (n ≡ 101 → ⊥)
     → c ≡ stored c n v
 unfolding stored
 unstored c n v h0 h1 h6 h7 h10 h11 h32 h64 h98 h99 h100 h101 =
@@ -86,8 +88,14 @@ returns-in-98 c = ⊎_elim (λ e. rw e) (λ e. rw e) (either c.args.n (omega ari
 
 pub returns-then-n-lt98 : goal.returns-then-n-lt98
 returns-then-n-lt98 c =
-    unstored _ _ c.args.v (λ e. omega arith) (λ e. omega arith) (λ e. omega arith) (λ e. omega arith) (λ e. omega arith) (λ e. omega arith) (λ e. omega arith) (λ e. omega arith) (λ e. omega arith) (λ e. omega arith) (λ e. omega arith) (λ e. omega arith)
+    unstored _ _ c.args.v
+    (λ e. omega arith) (λ e. omega arith) (λ e. omega arith) (λ e. omega arith) (λ e. omega arith)
+    (λ e. omega arith) (λ e. omega arith) (λ e. omega arith) (λ e. omega arith) (λ e. omega arith)
+    (λ e. omega arith) (λ e. omega arith)
 
 pub returns-else-n-lt100 : goal.returns-else-n-lt100
 returns-else-n-lt100 c =
-    unstored _ _ c.args.v (λ e. omega arith) (λ e. omega arith) (λ e. omega arith) (λ e. omega arith) (λ e. omega arith) (λ e. omega arith) (λ e. omega arith) (λ e. omega arith) (λ e. omega arith) (λ e. omega arith) (λ e. omega arith) (λ e. omega arith)
+    unstored _ _ c.args.v
+    (λ e. omega arith) (λ e. omega arith) (λ e. omega arith) (λ e. omega arith) (λ e. omega arith)
+    (λ e. omega arith) (λ e. omega arith) (λ e. omega arith) (λ e. omega arith) (λ e. omega arith)
+    (λ e. omega arith) (λ e. omega arith)

@@ -30,12 +30,15 @@ given e v p q g h s left right =
     )
 
 pub returns-then-expression-gt127 : goal.returns-then-expression-gt127
-returns-then-expression-gt127 c = let a = c.args in refused a.expression a.volume a.pan (simp (lt-ltb _ _ c.if-expression-gt127.true))
+returns-then-expression-gt127 c =
+    let a = c.args in
+    refused a.expression a.volume a.pan (simp (lt-ltb _ _ c.if-expression-gt127.true))
 
 pub returns-then-volume-gt127 : goal.returns-then-volume-gt127
 returns-then-volume-gt127 c =
     let a = c.args in
-    refused a.expression a.volume a.pan (simp (le-ltb _ _ c.if-expression-gt127.false, lt-ltb _ _ c.if-volume-gt127.true))
+    refused a.expression a.volume a.pan
+    (simp (le-ltb _ _ c.if-expression-gt127.false, lt-ltb _ _ c.if-volume-gt127.true))
 
 pub returns-then-pan-gt127 : goal.returns-then-pan-gt127
 returns-then-pan-gt127 c =

@@ -14,7 +14,8 @@ abbrev pub invariant-loop-i : goal.invariant-loop-i
 invariant-loop-i l =
     (l.n ≤ 36) × (l.i ≤ 36) × (length l.bytes ≡ 37) × (2 * l.t.count + 4 ≡ l.i) × (l.t ≡ table_of (entries_of l.t))
     × (judged_by (entries_of l.t ++ pairs (drop l.i (take l.n l.bytes)))
-    (faulty (entries_of l.t) l.before (pairs (drop l.i (take l.n l.bytes)))) ≡ judged_pairs (pairs (drop 4 (take l.n l.bytes))))
+    (faulty (entries_of l.t) l.before (pairs (drop l.i (take l.n l.bytes))))
+    ≡ judged_pairs (pairs (drop 4 (take l.n l.bytes))))
     × (length l.listed ≡ 256) × Marks (entries_of l.t) l.listed
 
 abbrev pub decreases-loop-i : goal.decreases-loop-i

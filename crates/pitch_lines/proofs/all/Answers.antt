@@ -1,14 +1,10 @@
 -- `pitch_lines::all`: at turn i the first i bytes are answered. The measure is what is left of them.
 -- Assumes nothing.
-use Prim.Native.Nat.{◌≤◌, ◌-◌}
 use native.Mathlib.Omega.{arith}
-use mathlib.Core.Path.{◌≡◌, refl, ◌∙◌}
-use lib.ListN.{length, take}
-use Rattle.text.specs.Text.{Put}
+use mathlib.Core.Path.{refl, ◌∙◌}
 use Rattle.text.proofs.Joined.{nothing_put}
 use Rattle.fields.specs.Line.{after_all}
 use Rattle.fields.specs.Answers.{answers_by}
-use Rattle.pitch_lines.specs.PitchLines.{answers_to}
 use Rattle.pitch_lines.proofs.Parts.{one_more, no_more, stands_whole}
 use Rattle.pitch_lines.proofs.all.Goals as goal
 

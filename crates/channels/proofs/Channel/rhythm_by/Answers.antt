@@ -10,7 +10,8 @@ returns-then-self-eq-RHYTHM_BANK c = simp (eq-eqb _ _ c.if-self-eq-RHYTHM_BANK.t
 
 pub returns-then-self-eq-MELODY_BANK : goal.returns-then-self-eq-MELODY_BANK
 unfolding rhythm_by
-returns-then-self-eq-MELODY_BANK c = simp (ne_eqb _ _ c.if-self-eq-RHYTHM_BANK.false, eq-eqb _ _ c.if-self-eq-MELODY_BANK.true)
+returns-then-self-eq-MELODY_BANK c =
+    simp (ne_eqb _ _ c.if-self-eq-RHYTHM_BANK.false, eq-eqb _ _ c.if-self-eq-MELODY_BANK.true)
 
 pub returns : goal.returns
 unfolding rhythm_by
