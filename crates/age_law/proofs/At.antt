@@ -93,7 +93,8 @@ silenced-at l s z g = go (ltb g 64) refl (goes l s g) refl
     rule f j = if goes l s j then 0 else f (at s j)
 
     in_place : (b : Bool)
-        → generator (if b then 0 else (at s g).state) (if b then 0 else (at s g).channel) (if b then 0 else (at s g).key)
+        → generator (if b then 0 else (at s g).state) (if b then 0 else (at s g).channel)
+        (if b then 0 else (at s g).key)
         ≡ (if b then generator 0 0 0 else at s g)
     in_place true = refl
     in_place false = refl

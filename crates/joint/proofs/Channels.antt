@@ -104,7 +104,8 @@ module _ (order : List ℕ) (s : Generators) (k : ℕ) (h : k < length order) wh
 
   pub joint-same : among next part ≡ true → busy_on (take (k + 1) order) s ≡ busy_on part s
   joint-same t =
-      let e : total (λ g. if among next part then 0 else bit (is_busy_on next (at s g))) 64 ≡ total (λ g. 0) 64 = rw t in
+      let e : total (λ g. if among next part then 0 else bit (is_busy_on next (at s g))) 64 ≡ total (λ g. 0) 64 =
+      rw t in
       let z : total (λ g. 0) 64 ≡ 0 = total_zero 64 in
       let a = grown in
       omega arith

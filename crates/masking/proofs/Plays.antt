@@ -42,7 +42,8 @@ turn p c k v out x r h e = go (eqb c k) refl (leb v p) e
   where
     go : (t : Bool) → eqb c k ≡ t → (b : Bool) → x ≡ (if b then 1 else get_or out k 0)
         → (not (eqb (get_or (set out k x) c 0) 0) || r) ≡ (not (eqb (get_or out c 0) 0) || ((b && t) || r))
-    go true t true e = rw (eqb-true c k t, get_or-set_same out k x 0 h, e) (sym (or-true (not (eqb (get_or out k 0) 0))))
+    go true t true e =
+        rw (eqb-true c k t, get_or-set_same out k x 0 h, e) (sym (or-true (not (eqb (get_or out k 0) 0))))
     go true t false e = rw (eqb-true c k t, get_or-set_same out k x 0 h, e)
     go false t true e = rw (get_or-set_other out k c x 0 (eqb-false c k t))
     go false t false e = rw (get_or-set_other out k c x 0 (eqb-false c k t))

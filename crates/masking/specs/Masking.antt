@@ -13,4 +13,5 @@ is_newly_masked p old new c = is_channel c && (not (is_masked (share_of old p c)
 unfoldable pub masked : ℕ → Table → Table → Generators → Generators
 masked p old new s =
     with_states s
-    (up_to (λ g. if is_busy (at s g) && is_newly_masked p old new (at s g).channel then releasing else (at s g).state) 64)
+    (up_to (λ g. if is_busy (at s g) && is_newly_masked p old new (at s g).channel then releasing
+    else (at s g).state) 64)

@@ -224,7 +224,8 @@ step_control i b m c n v lo hi = go (lifts_pedal n v) (silences_all n v) (ends_a
         → Matches (with_generators (with_channel i c x) (if p then changed (change.PedalUp c) s
         else if q then silenced (leaving.Channel c) s else if r then changed (change.AllNotesOff up' c) s else s))
         (with_bank (with_holds (if p then all_freed (λ y. is_on_pedal y && is_of c y) false b
-        else if q then all_freed (is_of c) false b else if r then all_freed (λ y. is_down y && is_of c y) up b else b) h) z)
+        else if q then all_freed (is_of c) false b
+        else if r then all_freed (λ y. is_down y && is_of c y) up b else b) h) z)
     go true q r =
         matches_channel _ _ (matches_changed (change.PedalUp c) i b m) c lo hi x h own others z own-bank other-bank
     go false true r = matches_channel _ _ (matches_silenced c i b m) c lo hi x h own others z own-bank other-bank

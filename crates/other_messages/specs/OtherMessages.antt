@@ -13,7 +13,8 @@ use Rattle.instrument.specs.Instrument.{channel_of, with_channel, with_kind, wit
 
 -- R6.2: a note-off; R6.4: of a drum
 unfoldable pub play_note_off : Instrument → ℕ → ℕ → Instrument
-play_note_off i c k = if is_rhythm i c then i else with_generators i (changed (NoteOff (pedal_down i c) c k) i.generators)
+play_note_off i c k =
+    if is_rhythm i c then i else with_generators i (changed (NoteOff (pedal_down i c) c k) i.generators)
 
 -- R6.7, R6.10, R6.11, R6.12: what becomes of the notes by a controller that lifts the pedal, silences or ends them
 unfoldable pub notes_after : Bool → ℕ → ℕ → ℕ → Generators → Generators

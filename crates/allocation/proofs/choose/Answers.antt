@@ -12,30 +12,25 @@ returns-in-At c = simp (sym c.lowest_idle.ensures ∙ c.in-At.is)
 pub returns-in-At-oldest : goal.returns-in-At-oldest
 unfolding choice
 returns-in-At-oldest c =
-    let b = c in
     simp (
-      sym b.lowest_idle.ensures ∙ b.in_default.is,
+      sym c.lowest_idle.ensures ∙ c.in_default.is,
       sym c.oldest.ensures ∙ c.in-At-oldest.is,
     )
 
 pub returns-in-At-victim : goal.returns-in-At-victim
 unfolding choice
 returns-in-At-victim c =
-    let o = c in
-    let b = o in
     simp (
-      sym b.lowest_idle.ensures ∙ b.in_default.is,
-      sym o.oldest.ensures ∙ o.in_default-oldest.is,
+      sym c.lowest_idle.ensures ∙ c.in_default.is,
+      sym c.oldest.ensures ∙ c.in_default-oldest.is,
       sym c.victim.ensures ∙ c.in-At-victim.is,
     )
 
 pub returns : goal.returns
 unfolding choice
 returns c =
-    let o = c in
-    let b = o in
     simp (
-      sym b.lowest_idle.ensures ∙ b.in_default.is,
-      sym o.oldest.ensures ∙ o.in_default-oldest.is,
+      sym c.lowest_idle.ensures ∙ c.in_default.is,
+      sym c.oldest.ensures ∙ c.in_default-oldest.is,
       sym c.victim.ensures ∙ c.in_default-victim.is,
     )

@@ -11,9 +11,8 @@ returns-then-masks c = simp (sym c.masks.ensures ∙ c.if-masks.true)
 pub returns-in_default : goal.returns-in_default
 unfolding note_on
 returns-in_default c =
-    let b = c in
     simp (
-      sym b.masks.ensures ∙ b.if-masks.false,
+      sym c.masks.ensures ∙ c.if-masks.false,
       sym c.clear-rest.ensures,
       sym c.choose-taken.ensures,
       c.in_default.is,
@@ -22,11 +21,10 @@ returns-in_default c =
 pub returns : goal.returns
 unfolding note_on
 returns c =
-    let b = c in
     simp (
-      sym b.masks.ensures ∙ b.if-masks.false,
+      sym c.masks.ensures ∙ c.if-masks.false,
       c.assign.ensures,
-      sym b.clear-rest.ensures,
-      sym b.choose-taken.ensures,
+      sym c.clear-rest.ensures,
+      sym c.choose-taken.ensures,
       c.in-Took.is,
     )

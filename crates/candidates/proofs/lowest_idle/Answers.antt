@@ -15,27 +15,24 @@ loop-g-init c = (omega arith, c.at_most-n.ensures.1, refl)
 pub returns-then-state-i-eq-IDLE : goal.returns-then-state-i-eq-IDLE
 unfolding lowest_idle
 returns-then-state-i-eq-IDLE c =
-    let b = c in
-    let st = b.args.generators.state in
-    let m = b.at_most-n in
-    rw (← m.ensures.0) (ap found (number_yes (idle_in st) m.result b.loop-g.g _
-    c.loop-g-test.true b.loop-g.invariant.2 (eq-eqb _ _ c.if-state-i-eq-IDLE.true)))
+    let st = c.args.generators.state in
+    let m = c.at_most-n in
+    rw (← m.ensures.0) (ap found (number_yes (idle_in st) m.result c.loop-g.g _
+    c.loop-g-test.true c.loop-g.invariant.2 (eq-eqb _ _ c.if-state-i-eq-IDLE.true)))
 
 pub loop-g-preserved : goal.loop-g-preserved
 loop-g-preserved c =
-    let b = c in
-    let st = b.args.generators.state in (
+    let st = c.args.generators.state in (
       omega arith,
-      b.loop-g.invariant.1,
-      number_no (idle_in st) b.at_most-n.result b.loop-g.g _
-          c.loop-g-test.true b.loop-g.invariant.2 (ne_eqb _ _ c.if-state-i-eq-IDLE.false),
+      c.loop-g.invariant.1,
+      number_no (idle_in st) c.at_most-n.result c.loop-g.g _
+          c.loop-g-test.true c.loop-g.invariant.2 (ne_eqb _ _ c.if-state-i-eq-IDLE.false),
     )
 
 pub returns : goal.returns
 unfolding lowest_idle
 returns c =
-    let b = c in
-    let st = b.args.generators.state in
-    let m = b.at_most-n in
+    let st = c.args.generators.state in
+    let m = c.at_most-n in
     rw (← m.ensures.0)
-    (ap found (number_end (idle_in st) m.result b.loop-g.g _ c.loop-g-test.false b.loop-g.invariant.2))
+    (ap found (number_end (idle_in st) m.result c.loop-g.g _ c.loop-g-test.false c.loop-g.invariant.2))

@@ -16,7 +16,8 @@ idle_in state g = eqb (get_or state g 0) 0
 
 abbrev pub invariant-loop-g : goal.invariant-loop-g
 invariant-loop-g l =
-    (l.g ≤ l.n) × (l.n ≤ 64) × (first_of (idle_in l.state) (drop l.g (numbers l.n)) ≡ first_of (idle_in l.state) (numbers l.n))
+    (l.g ≤ l.n) × (l.n ≤ 64)
+    × (first_of (idle_in l.state) (drop l.g (numbers l.n)) ≡ first_of (idle_in l.state) (numbers l.n))
 
 abbrev pub decreases-loop-g : goal.decreases-loop-g
 decreases-loop-g l = l.n - l.g

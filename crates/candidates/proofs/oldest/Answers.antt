@@ -11,17 +11,15 @@ use Rattle.candidates.proofs.oldest.Goals as goal
 pub returns-then-how_many-eq0 : goal.returns-then-how_many-eq0
 unfolding oldest
 returns-then-how_many-eq0 c =
-    let b = c in
-    let s = b.args.generators in
+    let s = c.args.generators in
     let z = sym c.how_many.ensures.0 ∙ c.if-how_many-eq0.true in
-    sym (ap found (found_none b.args.want s.state s.channel s.key
-    (state_64 s b.well_formed.0) z (oldest_first s.ages)))
+    sym (ap found (found_none c.args.want s.state s.channel s.key
+    (state_64 s c.well_formed.0) z (oldest_first s.ages)))
 
 pub returns : goal.returns
 unfolding oldest
 returns c =
-    let b = c in
-    let s = b.args.generators in
+    let s = c.args.generators in
     c.first_marked.ensures
-    ∙ ap found (found_marked b.args.want s.state s.channel s.key
-    (state_64 s b.well_formed.0) _ c.marks.ensures (oldest_first s.ages))
+    ∙ ap found (found_marked c.args.want s.state s.channel s.key
+    (state_64 s c.well_formed.0) _ c.marks.ensures (oldest_first s.ages))

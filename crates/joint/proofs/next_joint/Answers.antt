@@ -9,17 +9,15 @@ use Rattle.joint.proofs.next_joint.Goals as goal
 
 pub returns-then-stands : goal.returns-then-stands
 returns-then-stands c =
-    let s = c in
-    let a = s.args in
-    let z = s.well_formed.0.1.0.1 in
+    let a = c.args in
+    let z = c.well_formed.0.1.0.1 in
     let e = joint-same a.order a.s a.k (omega arith) (sym c.stands.ensures ∙ c.if-stands.true) in
-    (s.requires.1 ∙ sym e, s.requires.2)
+    (c.requires.1 ∙ sym e, c.requires.2)
 
 pub returns : goal.returns
 returns c =
-    let s = c in
-    let a = s.args in
-    let z = s.well_formed.0.1.0.1 in
+    let a = c.args in
+    let z = c.well_formed.0.1.0.1 in
     let e = joint_more a.order a.s a.k (omega arith)
     (sym c.stands.ensures ∙ c.if-stands.false) in
     let f = busy_64 (take (a.k + 1) a.order) a.s in

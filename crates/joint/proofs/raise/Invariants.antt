@@ -11,8 +11,10 @@ use Rattle.joint.proofs.raise.Given as goal
 
 abbrev pub invariant-loop-k : goal.invariant-loop-k
 invariant-loop-k l =
-    (l.k ≤ 16) × (length l.order ≡ 16) × (length l.initial.out ≡ 16) × (l.joint ≡ busy_on (take l.k l.order) l.s) × (l.joint ≤ 64)
-    × (l.out ≡ up_to (λ j. larger (get_or l.most j 0) (busy_on (take (j + 1) l.order) l.s)) l.k ++ drop l.k l.initial.out)
+    (l.k ≤ 16) × (length l.order ≡ 16) × (length l.initial.out ≡ 16)
+    × (l.joint ≡ busy_on (take l.k l.order) l.s) × (l.joint ≤ 64)
+    × (l.out ≡ up_to (λ j. larger (get_or l.most j 0) (busy_on (take (j + 1) l.order) l.s)) l.k
+    ++ drop l.k l.initial.out)
 
 abbrev pub decreases-loop-k : goal.decreases-loop-k
 decreases-loop-k l = 16 - l.k

@@ -19,7 +19,8 @@ rule state channel marks g =
 
 abbrev pub invariant-loop-i : goal.invariant-loop-i
 invariant-loop-i l =
-    (l.i ≤ 64) × (length l.initial.out ≡ 64) × (l.out ≡ up_to (rule l.state l.channel l.marks) l.i ++ drop l.i l.initial.out)
+    (l.i ≤ 64) × (length l.initial.out ≡ 64)
+    × (l.out ≡ up_to (rule l.state l.channel l.marks) l.i ++ drop l.i l.initial.out)
 
 abbrev pub decreases-loop-i : goal.decreases-loop-i
 decreases-loop-i l = 64 - l.i

@@ -36,27 +36,25 @@ loop-i-smaller c = omega arith
 
 pub loop-i-preserved : goal.loop-i-preserved
 loop-i-preserved c =
-    let b = c in
-    let n = b.at_most-n in
-    let a = b.args in
+    let n = c.at_most-n in
+    let a = c.args in
     let k = c.place-mark in
-    let s = length-set {A = ℕ} b.loop-i.out k.result c.if_else.result in (
+    let s = length-set {A = ℕ} c.loop-i.out k.result c.if_else.result in (
       omega arith,
       omega arith,
-      b.loop-i.invariant.2,
-      s ∙ b.loop-i.invariant.3,
-      marked_next a.polyphony a.table.entries n.result b.loop-i.i k.result
-          c.if_else.result b.loop-i.out (omega arith) (omega arith)
-          k.ensures.0 (omega arith) c.if_else.ensures b.loop-i.invariant.4,
+      c.loop-i.invariant.2,
+      s ∙ c.loop-i.invariant.3,
+      marked_next a.polyphony a.table.entries n.result c.loop-i.i k.result
+          c.if_else.result c.loop-i.out (omega arith) (omega arith)
+          k.ensures.0 (omega arith) c.if_else.ensures c.loop-i.invariant.4,
     )
 
 pub returns : goal.returns
 unfolding share_of
 returns c =
-    let b = c in
-    let n = b.at_most-n in
-    let a = b.args in
+    let n = c.at_most-n in
+    let a = c.args in
     λ k h. marked_end a.polyphony a.table.entries n.result
-    b.loop-i.i 0 b.loop-i.out (omega arith) b.loop-i.invariant.4 k h
+    c.loop-i.i 0 c.loop-i.out (omega arith) c.loop-i.invariant.4 k h
     ∙ ap (λ (l : List Entry). is_masked (lookup k (shares_from a.polyphony 0 l)))
-    (all_entries a.table n.result b.loop-i.invariant.2 n.ensures.0)
+    (all_entries a.table n.result c.loop-i.invariant.2 n.ensures.0)

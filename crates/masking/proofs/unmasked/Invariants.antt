@@ -9,7 +9,8 @@ use Rattle.masking.proofs.unmasked.Given as goal
 
 abbrev pub invariant-loop-i : goal.invariant-loop-i
 invariant-loop-i l =
-    (l.i ≤ l.n) × (l.n ≤ 16) × (length l.entries ≡ 16) × (length l.out ≡ 256) × Marked-to l.polyphony l.entries l.n l.i l.out
+    (l.i ≤ l.n) × (l.n ≤ 16) × (length l.entries ≡ 16) × (length l.out ≡ 256)
+    × Marked-to l.polyphony l.entries l.n l.i l.out
 
 abbrev pub decreases-loop-i : goal.decreases-loop-i
 decreases-loop-i l = 16 - l.i

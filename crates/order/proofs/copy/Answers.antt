@@ -15,8 +15,11 @@ loop-i-init c = (omega arith, refl, refl)
 pub loop-i-preserved : goal.loop-i-preserved
 loop-i-preserved c =
     let l = c.loop-i in
-    let order = c.args.order.now in
-    (omega arith, l.invariant.1, fill_next (λ (j : ℕ). get_or order j 0) 0 _ l.out l.i _ (omega arith) l.invariant.2 refl)
+    let order = c.args.order.now in (
+      omega arith,
+      l.invariant.1,
+      fill_next (λ (j : ℕ). get_or order j 0) 0 _ l.out l.i _ (omega arith) l.invariant.2 refl,
+    )
 
 pub returns : goal.returns
 returns c =

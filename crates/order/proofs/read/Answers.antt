@@ -21,9 +21,8 @@ returns-then-all_once c =
 pub returns : goal.returns
 unfolding order_of is_order
 returns c =
-    let a = c in
     simp (
-      eq-eqb _ _ a.if-order-ne16.false,
-      rw a.copy-channels.ensures at (sym a.all_once.ensures ∙ a.if-all_once.false),
+      eq-eqb _ _ c.if-order-ne16.false,
+      rw c.copy-channels.ensures at (sym c.all_once.ensures ∙ c.if-all_once.false),
       c.none-2.ensures,
     )

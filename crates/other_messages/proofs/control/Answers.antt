@@ -6,13 +6,12 @@ use Rattle.other_messages.proofs.control.Goals as goal
 pub returns : goal.returns
 unfolding play_control
 returns c =
-    let b = c in
     simp (
       c.with_generators.ensures,
       c.with_channel.ensures,
       c.control-x.ensures,
       c.channel_of.ensures,
-      b.notes_after-after.ensures,
-      b.is_rhythm.ensures,
-      b.pedal_down.ensures,
+      c.notes_after-after.ensures,
+      c.is_rhythm.ensures,
+      c.pedal_down.ensures,
     )

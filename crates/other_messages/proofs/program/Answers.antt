@@ -7,15 +7,14 @@ use Rattle.other_messages.proofs.program.Goals as goal
 pub returns-then-channel-eq11 : goal.returns-then-channel-eq11
 unfolding play_program
 returns-then-channel-eq11 c =
-    let b = c in
     simp (
-      eq-eqb _ _ b.if-channel-eq11.true,
+      eq-eqb _ _ c.if-channel-eq11.true,
       c.set_kind.ensures,
       c.rhythm_by.ensures,
       c.is_rhythm.ensures,
-      b.with_channel-next.ensures,
-      b.program.ensures,
-      b.channel_of-x.ensures,
+      c.with_channel-next.ensures,
+      c.program.ensures,
+      c.channel_of-x.ensures,
     )
 
 pub returns : goal.returns

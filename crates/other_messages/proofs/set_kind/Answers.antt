@@ -7,10 +7,9 @@ use Rattle.other_messages.proofs.set_kind.Goals as goal
 pub returns-then-rhythm-was : goal.returns-then-rhythm-was
 unfolding kind_set
 returns-then-rhythm-was c =
-    let b = c in
     simp (
-      sym b.is_rhythm-was.ensures,
-      b.if-rhythm-was.true,
+      sym c.is_rhythm-was.ensures,
+      c.if-rhythm-was.true,
       c.with_generators.ensures,
       c.with_kind.ensures,
       c.apply-after.ensures,

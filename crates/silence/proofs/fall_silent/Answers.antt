@@ -7,14 +7,12 @@ use Rattle.silence.proofs.fall_silent.Goals as goal
 
 pub returns : goal.returns
 returns c =
-    let b = c in
-    let a = b in
-    let l = state_64 a.args.generators a.well_formed.0 in
+    let l = state_64 c.args.generators c.well_formed.0 in
     simp (
       c.unmarked-keys_left.ensures,
       c.unmarked-channels_left.ensures,
       c.unmarked-states_left.ensures,
       c.without-left.ensures,
-      b.marks-gone.ensures,
+      c.marks-gone.ensures,
     )
-    (silence_of a.args.leaving a.args.generators l)
+    (silence_of c.args.leaving c.args.generators l)

@@ -15,7 +15,8 @@ use Rattle.silence.proofs.marks.Given as goal
 
 -- whether generator g leaves
 abbrev pub rule : List ℕ → List ℕ → List ℕ → Leaving → ℕ → Bool
-rule state channel keys leaving g = leaves leaving g (generator (get_or state g 0) (get_or channel g 0) (get_or keys g 0))
+rule state channel keys leaving g =
+    leaves leaving g (generator (get_or state g 0) (get_or channel g 0) (get_or keys g 0))
 
 abbrev pub invariant-loop-i : goal.invariant-loop-i
 invariant-loop-i l = (l.i ≤ 64) × (length l.state ≡ 64)

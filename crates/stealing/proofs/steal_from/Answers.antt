@@ -13,8 +13,7 @@ use Rattle.stealing.proofs.steal_from.Goals as goal
 
 pub loop-i-init : goal.loop-i-init
 loop-i-init c =
-    let a = c in
-    (omega (arith, c.at_most-i.ensures.1), entries_16 a.args.table a.well_formed.1.0, refl)
+    (omega (arith, c.at_most-i.ensures.1), entries_16 c.args.table c.well_formed.1.0, refl)
 
 pub bounds-entries-less : goal.bounds-entries-less
 bounds-entries-less c = omega (arith, c.less.ensures, c.loop-i.invariant.0)
@@ -22,37 +21,32 @@ bounds-entries-less c = omega (arith, c.less.ensures, c.loop-i.invariant.0)
 pub returns-then-is_over : goal.returns-then-is_over
 unfolding steal_from
 returns-then-is_over c =
-    let d = c in
-    let b = d in
-    let a = b.args in
-    let m = b.at_most-i in
-    let h : 0 < b.loop-i.i = d.loop-i-test.true in
-    let t = rw (d.if_else-before.ensures, d.less.ensures)
+    let a = c.args in
+    let m = c.at_most-i in
+    let h : 0 < c.loop-i.i = c.loop-i-test.true in
+    let t = rw (c.if_else-before.ensures, c.less.ensures)
     at (sym c.is_over.ensures ∙ c.if-is_over.true) in
-    rw (← (take-at_most 16 a.table.count a.table.entries b.loop-i.invariant.1), ← m.ensures.0)
+    rw (← (take-at_most 16 a.table.count a.table.entries c.loop-i.invariant.1), ← m.ensures.0)
     (ap to_loser (over_yes a.polyphony (counted a.generators a.channel)
-    a.table.entries b.loop-i.i h (omega arith) _ b.loop-i.invariant.2 t))
+    a.table.entries c.loop-i.i h (omega arith) _ c.loop-i.invariant.2 t))
 
 pub loop-i-preserved : goal.loop-i-preserved
 loop-i-preserved c =
-    let d = c in
-    let b = d in
-    let a = b.args in
-    let h : 0 < b.loop-i.i = d.loop-i-test.true in
-    let t = rw (d.if_else-before.ensures, d.less.ensures)
+    let a = c.args in
+    let h : 0 < c.loop-i.i = c.loop-i-test.true in
+    let t = rw (c.if_else-before.ensures, c.less.ensures)
     at (sym c.is_over.ensures ∙ c.if-is_over.false) in (
       omega arith,
-      b.loop-i.invariant.1,
+      c.loop-i.invariant.1,
       over_no a.polyphony (counted a.generators a.channel)
-          a.table.entries b.loop-i.i h (omega arith) _ b.loop-i.invariant.2 t,
+          a.table.entries c.loop-i.i h (omega arith) _ c.loop-i.invariant.2 t,
     )
 
 pub returns : goal.returns
 unfolding steal_from shares_from over_share
 returns c =
-    let b = c in
-    let a = b.args in
-    let m = b.at_most-i in
-    let e : b.loop-i.i ≡ 0 = omega arith in
-    rw (← (take-at_most 16 a.table.count a.table.entries b.loop-i.invariant.1), ← m.ensures.0)
-    (ap to_loser (rw e at b.loop-i.invariant.2))
+    let a = c.args in
+    let m = c.at_most-i in
+    let e : c.loop-i.i ≡ 0 = omega arith in
+    rw (← (take-at_most 16 a.table.count a.table.entries c.loop-i.invariant.1), ← m.ensures.0)
+    (ap to_loser (rw e at c.loop-i.invariant.2))

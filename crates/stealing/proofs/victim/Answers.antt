@@ -12,9 +12,8 @@ returns-in_default c = simp (sym c.steal_from.ensures ∙ c.in_default.is)
 pub returns : goal.returns
 unfolding victim
 returns c =
-    let b = c in
     simp (
-      sym b.steal_from.ensures ∙ b.in-Channel.is,
+      sym c.steal_from.ensures ∙ c.in-Channel.is,
       c.oldest.ensures,
       c.stolen_first.ensures,
     )

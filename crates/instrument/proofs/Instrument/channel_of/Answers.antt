@@ -14,18 +14,14 @@ use Rattle.instrument.proofs.Instrument.channel_of.Goals as goal
 pub returns-then-place-lt16 : goal.returns-then-place-lt16
 unfolding channel_of channel_at
 returns-then-place-lt16 c =
-    let b = c in
-    let s = b in
-    let l = s.args.self.channels in
-    let n = channels_16 s.args.self s.well_formed.0 in
-    any_default _ fresh l b.less-place.result (omega arith) ∙ ap (λ (k : ℕ). get_or l k fresh) b.less-place.ensures
+    let l = c.args.self.channels in
+    let n = channels_16 c.args.self c.well_formed.0 in
+    any_default _ fresh l c.less-place.result (omega arith) ∙ ap (λ (k : ℕ). get_or l k fresh) c.less-place.ensures
 
 pub returns : goal.returns
 unfolding channel_of channel_at
 returns c =
-    let b = c in
-    let s = b in
-    let l = s.args.self.channels in
-    let n = channels_16 s.args.self s.well_formed.0 in
-    let h : length l ≤ s.args.channel - 1 = omega (arith, b.less-place.ensures) in
+    let l = c.args.self.channels in
+    let n = channels_16 c.args.self c.well_formed.0 in
+    let h : length l ≤ c.args.channel - 1 = omega (arith, c.less-place.ensures) in
     c.fresh.ensures ∙ sym (get_or-eq_default l fresh h)
