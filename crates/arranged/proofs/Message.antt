@@ -41,7 +41,8 @@ record Whole' (order log : List ℕ) : Type 0 where
 -- which number a log without an order, or with a faulty line, is answered
 abbrev wrote : List ℕ → List ℕ → Bool → Option ℕ → Written
 wrote order log b o =
-    if b then written_by order (records fresh (lines_of log)) (told (looked_at fresh (lines_of log))) o else refused 16 0
+    if b then written_by order (records fresh (lines_of log)) (told (looked_at fresh (lines_of log))) o
+    else refused 16 0
 
 fault_above : (d : Device) (ls : List (List ℕ)) (n : ℕ) → fault d ls ≡ some n → n ≡ 0 → ⊥
 unfolding fault at_line
@@ -103,7 +104,8 @@ pub zeros_beside : ZerosBeside
 unfolding message
 zeros_beside order log h = go (is_order order) (fault fresh (lines_of log)) h
   where
-    go : (b : Bool) (o : Option ℕ) → ((wrote order log b o).number ≡ 0 → ⊥) → (wrote order log b o).bytes ≡ replicate 38 0
+    go : (b : Bool) (o : Option ℕ) → ((wrote order log b o).number ≡ 0 → ⊥)
+        → (wrote order log b o).bytes ≡ replicate 38 0
     go true none h = absurd (h refl)
     go true (some m) h = refl
     go false o h = refl

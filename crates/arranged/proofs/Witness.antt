@@ -38,7 +38,8 @@ module _ (order l : List ℕ) (o : Output) (h : GivenBack order l o) where
   values_back = h.same-values
 
 module _ (order l : List ℕ) (k : ℕ) (h : Tight order l k) where
-  pub never_exceeded : (j : ℕ) → j < length (lines_of l) → joint order k (record_after l j) ≤ get_or (values_of order l) k 0
+  pub never_exceeded : (j : ℕ) → j < length (lines_of l)
+      → joint order k (record_after l j) ≤ get_or (values_of order l) k 0
   never_exceeded = h.enough
 
   pub exceeded_if_lower : 0 < get_or (values_of order l) k 0

@@ -46,9 +46,11 @@ ReaderTakes =
 
 -- R14.8, of the value at place k of the order: no line exceeds it, and with one less some line would
 pub record Tight (order log : List ℕ) (k : ℕ) : Type 0 where
-  pub enough : (j : ℕ) → j < length (lines_of log) → joint order k (record_after log j) ≤ get_or (values_of order log) k 0
+  pub enough : (j : ℕ) → j < length (lines_of log)
+      → joint order k (record_after log j) ≤ get_or (values_of order log) k 0
   pub needed : 0 < get_or (values_of order log) k 0
-      → (j : ℕ) × ((j < length (lines_of log)) × (get_or (values_of order log) k 0 - 1 < joint order k (record_after log j)))
+      → (j : ℕ) × ((j < length (lines_of log))
+      × (get_or (values_of order log) k 0 - 1 < joint order k (record_after log j)))
 
 abbrev pub AllTight : Type 0
 AllTight = (order log : List ℕ) (k : ℕ) → k < 16 → Tight order log k
@@ -67,7 +69,8 @@ record_before log j = get_or (fresh ∷ records fresh (lines_of log)) j fresh
 -- of all
 abbrev pub NoOtherNumber : Type 0
 NoOtherNumber =
-    (log : List ℕ) (j : ℕ) (e : Event) (n : ℕ) → j < length (lines_of log) → event_of (get_or (lines_of log) j []) ≡ some e
+    (log : List ℕ) (j : ℕ) (e : Event) (n : ℕ) → j < length (lines_of log)
+    → event_of (get_or (lines_of log) j []) ≡ some e
     → number_of (taken (record_before log j) e).answer ≡ some n → (n ≡ 13 → ⊥) → n ≤ 11
 
 -- ---- a log in parts

@@ -93,11 +93,11 @@ module _ (p v : ℕ) where
 
 fixed : P1 ++ P2 ++ (mask IsUnmasked ∷ []) ++ (mask IsMasked ∷ []) ++ P5 ++ P6 ++ P7 ++ P8 ++ P9 ≡ printed
 unfolding up_to total filter_by first_of padded begun stored one_data_byte completed data_byte opened ended status_byte
-    split decode table_of start_table listed shares_from lookup share_of share_query is_mip is_system_on kind_of pairs faulty
-    judged group_of excludes ages_of newest assigned silent changes state_after changed is_among leaves silenced lowest_idle
-    wanted oldest stolen_first busy_count over_share steal_from victim cleared choice note_on fresh is_rhythm masked
-    play_note_on played started new_table mip_taken exclusive heard byte_taken after_bytes generator_query P1 P2 P5 P6 P7 P8
-    P9 printed
+    split decode table_of start_table listed shares_from lookup share_of share_query is_mip is_system_on kind_of pairs
+    faulty judged group_of excludes ages_of newest assigned silent changes state_after changed is_among leaves
+    silenced lowest_idle wanted oldest stolen_first busy_count over_share steal_from victim cleared choice note_on
+    fresh is_rhythm masked play_note_on played started new_table mip_taken exclusive heard byte_taken after_bytes
+    generator_query P1 P2 P5 P6 P7 P8 P9 printed
 fixed = refl
 
 pub paper_examples : (p : ℕ) → 1 ≤ p → p ≤ 64 → computed p ≡ printed

@@ -350,7 +350,8 @@ module _ (p j : ℕ) (lo : 1 ≤ p) (s : Generators) (o : Lined p j s) where
           let n = full in
           robs (front s o.first g (order s) o.line (omega arith)
           (first-down g (subst (λ (z : ℕ). first_to_go slots (order s) z ≡ some g) one r))) n x
-      go (idle x) = let q : ◌≡◌ {A = Bool} false true = sym (ap (is_of d) (idle_empty (at s g) x)) ∙ e in impossible (cc)
+      go (idle x) =
+          let q : ◌≡◌ {A = Bool} false true = sym (ap (is_of d) (idle_empty (at s g) x)) ∙ e in impossible (cc)
   take t (shut f v z w r) =
       absurd (let n = total-full (λ (g : ℕ). is_of 1 (slots g)) p (λ g l. own g (f g l)) in omega arith)
 

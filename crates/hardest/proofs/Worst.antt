@@ -32,8 +32,8 @@ use Rattle.reports.specs.Reports.{reported}
 use Rattle.device.specs.Device.{fresh_device, byte_taken}
 use Rattle.events.specs.declared.Event.TheVariants.{Byte}
 use Rattle.events.specs.Events.{taken}
-use Rattle.note_book.specs.Book.{Slot, empty, note, is_note, Book, with_holds, with_bank, with_rhythm, is_done, is_rhythm}
-use Rattle.note_book.specs.Book.{pedal_down, is_down, is_on_pedal, is_of_key, is_of_masked, with_table}
+use Rattle.note_book.specs.Book.{Slot, empty, note, is_note, Book, with_holds, with_bank, with_rhythm, is_done}
+use Rattle.note_book.specs.Book.{is_rhythm, pedal_down, is_down, is_on_pedal, is_of_key, is_of_masked, with_table}
 use Rattle.note_book.specs.Book.{is_of, is_ended, all_freed, put, remaining, keep_note_on, notes_after}
 use Rattle.note_book.specs.Book.{keep_control, kind_kept, keep_program, keep_message, keep_report, Heard, message, keep}
 use Rattle.note_book.specs.Claim.{Both, Live}
@@ -234,4 +234,5 @@ fresh_no_worse p id hi l = go (thefts (fresh_device p id) l) (bounded p (fresh_b
 pub no_worse : NoWorse
 unfolding fresh
 no_worse p id l =
-    every_start (λ d. thefts d l ≤ most_thefts (polyphony_of d) (length l)) (λ p id lo hi. fresh_no_worse p id hi l) p id
+    every_start (λ d. thefts d l ≤ most_thefts (polyphony_of d) (length l))
+    (λ p id lo hi. fresh_no_worse p id hi l) p id

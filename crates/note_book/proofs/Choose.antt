@@ -143,7 +143,8 @@ pedal_up empty e f = false≢true e
 pedal_up (note true d k) e f = false≢true f
 pedal_up (note false d k) e f = false≢true e
 
-neither_of : (c : ℕ) (x : Slot) → is_on_pedal x && is_of c x ≡ false → is_down x && is_of c x ≡ false → is_of c x ≡ false
+neither_of : (c : ℕ) (x : Slot) → is_on_pedal x && is_of c x ≡ false → is_down x && is_of c x ≡ false
+    → is_of c x ≡ false
 neither_of c empty e f = refl
 neither_of c (note true d k) e f = e
 neither_of c (note false d k) e f = f
@@ -276,7 +277,8 @@ module _ (p : ℕ) (n : ℕ → Slot) (s : Generators) (o : Playable p s) (e : S
       pedal : Option ℕ
       pedal = first_of (λ g. is_on_pedal (n g) && is_of d (n g)) (oldest_first s.ages)
 
-      there : (x : Option ℕ) → pedal ≡ x → eqb (total (λ g. bit (is_sustained (at s g) && is_on d (at s g))) 64) 0 ≡ false
+      there : (x : Option ℕ) → pedal ≡ x
+          → eqb (total (λ g. bit (is_sustained (at s g) && is_on d (at s g))) 64) 0 ≡ false
           → (y : Option ℕ) → found x ≡ found (otherwise x y)
       there (some g) r q y = refl
       there none r q y = absurd (true≢false (sym (eq-eqb _ _ (none_counted d r)) ∙ q))
@@ -303,7 +305,8 @@ module _ (p : ℕ) (n : ℕ → Slot) (s : Generators) (o : Playable p s) (e : S
           → (y : Option ℕ) → Picked (λ g. is_down (n g) && is_of d (n g)) (oldest_first s.ages) y
           → Lost d (otherwise x y)
       go x (some_one g b k) y r =
-          a-note g (and_right (is_on_pedal (n g)) _ b) (λ t. absurd (pedal_up (n g) (and_left (is_on_pedal (n g)) _ b) t))
+          a-note g (and_right (is_on_pedal (n g)) _ b)
+          (λ t. absurd (pedal_up (n g) (and_left (is_on_pedal (n g)) _ b) t))
       go x (no_one a) y (some_one g b k) =
           a-note g (and_right (is_down (n g)) _ b) (λ t. none_at_all (λ x. is_on_pedal x && is_of d x) refl a)
       go x (no_one a) y (no_one b) =
@@ -345,7 +348,8 @@ module _ (p : ℕ) (n : ℕ → Slot) (s : Generators) (o : Playable p s) (e : S
         (go (first_of (λ g. is_idle (at s g)) (numbers p)) (first_law (λ g. is_idle (at s g)) (numbers p)))
       where
         steal : Full p n
-            → Chosen p n s q c (or_else (loses s (to_loser (over_share (counted s c) (shares p m)))) Stolen (Refused 11))
+            → Chosen p n s q c
+            (or_else (loses s (to_loser (over_share (counted s c) (shares p m)))) Stolen (Refused 11))
         steal f =
             rw (r, over_same (counted s c) (with_new p n c) q (λ d. ap (λ (k : ℕ). k + bit (eqb d c)) (count-notes d)))
             (rob f (over_share (with_new p n c) q) refl)
@@ -364,7 +368,8 @@ module _ (p : ℕ) (n : ℕ → Slot) (s : Generators) (o : Playable p s) (e : S
         next a x (no_one b) = steal (full a b)
 
         go : (x : Option ℕ) → Picked (λ g. is_idle (at s g)) (numbers p) x → Chosen p n s q c
-            (or_else (found x) Idle (or_else (oldest Releasing s) Release (or_else (victim s m p c) Stolen (Refused 11))))
+            (or_else (found x) Idle
+            (or_else (oldest Releasing s) Release (or_else (victim s m p c) Stolen (Refused 11))))
         go x (some_one g b k) = free g Idle refl (numbers_in p g k) (e g ∙ idle_slot (at s g) b)
         go x (no_one a) = next a (first_of (λ g. is_releasing (at s g)) (oldest_first s.ages))
             (first_law (λ g. is_releasing (at s g)) (oldest_first s.ages))

@@ -46,7 +46,8 @@ none_down b c n v g a lo hi =
     ∙ none_left c (pedal_down b c && not (is_rhythm b c)) (b.notes g)
 
 -- a down note of the channel leaves where no pedal keeps it
-emptied : (c : ℕ) (s : Slot) → is_down_on c s ≡ true → (pedal : Bool) → pedal ≡ false → freed (is_down_on c) pedal s ≡ empty
+emptied : (c : ℕ) (s : Slot) → is_down_on c s ≡ true → (pedal : Bool) → pedal ≡ false
+    → freed (is_down_on c) pedal s ≡ empty
 emptied c empty e pedal q = absurd (false≢true e)
 emptied c (note p d k) e pedal q = go (is_down_on c (note p d k)) e pedal q
   where

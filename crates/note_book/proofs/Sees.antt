@@ -149,7 +149,8 @@ pub sees_restated : (n : ℕ → Slot) (s : Generators) (z : Sized s) (t : Gener
     → ((g : ℕ) → slot_of (if t (at s g) then generator m (at s g).channel (at s g).key else at s g)
     ≡ freed f p (slot_of (at s g)))
     → Sees n s → Sees (λ g. freed f p (n g)) (restated s z t m busy)
-sees_restated n s z t m busy f p h e g = ap (freed f p) (e g) ∙ sym (h g) ∙ ap slot_of (sym (restated_at s z t m busy g))
+sees_restated n s z t m busy f p h e g =
+    ap (freed f p) (e g) ∙ sym (h g) ∙ ap slot_of (sym (restated_at s z t m busy g))
 
 pub sees_changed : (h : Change) (n : ℕ → Slot) (s : Generators) → Sized s
     → Sees n s → Sees (λ g. freed (means h) (pedals h) (n g)) (changed h s)

@@ -48,7 +48,7 @@ use Rattle.reports.specs.Reports.{reported}
 use Rattle.exclusive.specs.Exclusive.{new_table}
 use Rattle.note_book.specs.Book.{Slot, empty, note, Book, with_holds, with_table, with_bank, with_rhythm, fresh_book}
 use Rattle.note_book.specs.Book.{share_of, is_rhythm, pedal_down, is_down, is_on_pedal, is_of, is_of_key}
-use Rattle.note_book.specs.Book.{freed, all_freed, put, keep_note_off, hold_after, notes_after, bank_after}
+use Rattle.note_book.specs.Book.{freed, all_freed, put, keep_note_off, hold_after, bank_after}
 use Rattle.note_book.specs.Book.{keep_control, kind_kept, keep_program, keep_message}
 use Rattle.note_book.specs.Book.{is_of_masked, keep_table, keep_report}
 use Rattle.note_book.specs.Claim.{slot_of}
@@ -224,7 +224,8 @@ step_control i b m c n v lo hi = go (lifts_pedal n v) (silences_all n v) (ends_a
         → Matches (with_generators (with_channel i c x) (if p then changed (change.PedalUp c) s
         else if q then silenced (leaving.Channel c) s else if r then changed (change.AllNotesOff up' c) s else s))
         (with_bank (with_holds (if p then all_freed (λ y. is_on_pedal y && is_of c y) false b
-        else if q then all_freed (is_of c) false b else if r then all_freed (λ y. is_down y && is_of c y) up b else b) h) z)
+        else if q then all_freed (is_of c) false b
+        else if r then all_freed (λ y. is_down y && is_of c y) up b else b) h) z)
     go true q r =
         matches_channel _ _ (matches_changed (change.PedalUp c) i b m) c lo hi x h own others z own-bank other-bank
     go false true r = matches_channel _ _ (matches_silenced c i b m) c lo hi x h own others z own-bank other-bank

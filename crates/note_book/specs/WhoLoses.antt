@@ -26,7 +26,8 @@ payer b c = over_share (with_new b.polyphony b.notes c) (shares_from b.polyphony
 -- `order` has the generators, the oldest first
 abbrev pub first_to_go : (ℕ → Slot) → List ℕ → ℕ → Option ℕ
 first_to_go n order d =
-    otherwise (first_of (λ g. is_on_pedal (n g) && is_of d (n g)) order) (first_of (λ g. is_down (n g) && is_of d (n g)) order)
+    otherwise (first_of (λ g. is_on_pedal (n g) && is_of d (n g)) order)
+    (first_of (λ g. is_down (n g) && is_of d (n g)) order)
 
 abbrev pub paid_by : (ℕ → Slot) → List ℕ → Option ℕ → Option ℕ
 paid_by n order none = none

@@ -1,6 +1,7 @@
 // What a complete channel message does to the sound module, and what it answers (R4.11, R4.12), by value, for every
 // value. Assumes nothing.
 #![tactic(auto)]
+
 ghost use Rattle.std.specs.Prelude.{◌≡◌};
 ghost use Rattle.playing.specs.Playing.{sounded_of, play_note_on, reply_of, replied, played};
 

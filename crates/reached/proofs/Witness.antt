@@ -115,7 +115,8 @@ pub bounds_reached : channel_of (after (started 65 0).device loudest).instrument
     }
 unfolding begun stored one_data_byte completed data_byte opened ended status_byte split decode of-channel.fresh
     of-controllers.data_entry of-controllers.stored of-controllers.controlled silent fresh channel_at replaced
-    channel_of with_channel notes_after play_control play_program played reported started heard byte_taken report_taken taken
+    channel_of with_channel notes_after play_control play_program played reported started heard byte_taken report_taken
+    taken
     after
 bounds_reached = refl
 
@@ -125,7 +126,8 @@ unfolding fresh started after
 melody_reached p id = by_both (λ (o : Output). o.device.instrument.kind ≡ 0) (ltb p 1 || ltb 64 p) _ _ refl
     (by_both (λ (o : Output). o.device.instrument.kind ≡ 0) (ltb 126 id) _ _ refl refl)
 
-pub rhythm_reached : (after (started 1 0).device (Byte 0xBA ∷ Byte 0 ∷ Byte 120 ∷ Byte 0xCA ∷ Byte 0 ∷ [])).instrument.kind ≡ 1
+pub rhythm_reached :
+    (after (started 1 0).device (Byte 0xBA ∷ Byte 0 ∷ Byte 120 ∷ Byte 0xCA ∷ Byte 0 ∷ [])).instrument.kind ≡ 1
 unfolding begun stored one_data_byte completed data_byte opened ended status_byte split decode of-channel.fresh
     of-channel.rhythm_by of-controllers.stored of-controllers.controlled silent fresh channel_at replaced channel_of
     with_channel is_rhythm notes_after play_control kind_set play_program played started heard byte_taken taken after

@@ -52,7 +52,8 @@ module _ (d : Device)
       go true e = rw e (sym (idle_busy (gen g) (above g (leb-true _ _ e))))
       go false e = rw e refl
 
-  told-busy-on : (c g : ℕ) → is_busy_told (generator_query d g) && is_on_told c (generator_query d g) ≡ is_busy_on c (gen g)
+  told-busy-on : (c g : ℕ)
+      → is_busy_told (generator_query d g) && is_on_told c (generator_query d g) ≡ is_busy_on c (gen g)
   unfolding generator_query
   told-busy-on c g = go (leb d.instrument.polyphony g) refl
     where

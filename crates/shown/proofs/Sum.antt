@@ -124,6 +124,7 @@ notes_add_up p id l =
     (λ g h. once (at s g) (λ e.
     in_range (at s g).channel (quota b) (shares-channels b.polyphony 0 b.table m.well_formed.channels)
     (busy_listed (quota b) (at s g) (rw (m.notes g) at (m.unmasked g)) e)))
-    ∙ sym (total_cut (λ (g : ℕ). bit (is_busy (at s g))) 64 256 (omega arith) (λ g h. none_busy d above g (omega arith)))
+    ∙ sym (total_cut (λ (g : ℕ). bit (is_busy (at s g))) 64 256 (omega arith)
+    (λ g h. none_busy d above g (omega arith)))
     ∙ sym (total-same (λ (g : ℕ). bit (is_busy_told (generator_query d g)))
     (λ (g : ℕ). bit (is_busy (at s g))) 256 (λ g h. ap bit (told_busy d above g)))

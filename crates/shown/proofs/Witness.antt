@@ -206,6 +206,7 @@ unfolding up_to total filter_by first_of padded begun stored one_data_byte compl
     group_of excludes of-channel.fresh of-controllers.data_entry of-controllers.stored of-controllers.controlled
     ages_of newest assigned silent changes state_after changed is_among leaves silenced lowest_idle wanted oldest
     busy_count over_share steal_from victim cleared choice note_on fresh channel_at replaced channel_of with_channel
-    is_rhythm masked notes_after play_control play_note_off play_note_on played started new_table mip_taken exclusive heard
+    is_rhythm masked notes_after play_control play_note_off play_note_on played started new_table mip_taken exclusive
+    heard
     byte_taken taken report_taken reported after in_two in_three standing_from head line row rows_to page_of page_text
 worked_page = refl

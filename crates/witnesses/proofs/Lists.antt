@@ -213,7 +213,8 @@ pub theft_when_full : (is_loss theft.book 10 36 (Live.answer theft (Byte 64)) â‰
 unfolding up_to total filter_by first_of padded begun stored one_data_byte completed data_byte opened ended status_byte
     split decode table_of start_table shares_from lookup share_of group_of excludes ages_of newest assigned silent
     changes state_after changed is_among leaves silenced lowest_idle wanted oldest stolen_first busy_count over_share
-    steal_from victim cleared choice note_on fresh is_rhythm play_note_on played started heard byte_taken taken keep_message
+    steal_from victim cleared choice note_on fresh is_rhythm play_note_on played started heard byte_taken taken
+    keep_message
     keep after
 theft_when_full =
     let lost : is_loss theft.book 10 36 (Live.answer theft (Byte 64)) â‰¡ true = refl in (
