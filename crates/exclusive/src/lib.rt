@@ -1,6 +1,7 @@
 // What an ended SysEx does to the sound module, and what it answers (R2.7, R3.3, R3.6, R3.7): a MIP message, GM
 // System On, or nothing for us. By value, for every value. Assumes nothing.
 #![tactic(auto)]
+
 ghost use Rattle.std.specs.Prelude.{◌≡◌};
 ghost use Rattle.splitter.specs.Split.{body};
 ghost use Rattle.exclusive.specs.Exclusive.{new_table, mip_taken, exclusive};

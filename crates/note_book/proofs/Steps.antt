@@ -48,7 +48,7 @@ use Rattle.reports.specs.Reports.{reported}
 use Rattle.exclusive.specs.Exclusive.{new_table}
 use Rattle.note_book.specs.Book.{Slot, empty, note, Book, with_holds, with_table, with_bank, with_rhythm, fresh_book}
 use Rattle.note_book.specs.Book.{share_of, is_rhythm, pedal_down, is_down, is_on_pedal, is_of, is_of_key}
-use Rattle.note_book.specs.Book.{freed, all_freed, put, keep_note_off, hold_after, notes_after, bank_after}
+use Rattle.note_book.specs.Book.{freed, all_freed, put, keep_note_off, hold_after, bank_after}
 use Rattle.note_book.specs.Book.{keep_control, kind_kept, keep_program, keep_message}
 use Rattle.note_book.specs.Book.{is_of_masked, keep_table, keep_report}
 use Rattle.note_book.specs.Claim.{slot_of}

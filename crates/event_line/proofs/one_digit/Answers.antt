@@ -1,0 +1,19 @@
+-- `event_line::one_digit` meets its contract: the code tests and adds up what the definition does.
+-- Assumes nothing.
+use mathlib.Core.Path.{◌∙◌, sym}
+use Rattle.event_line.specs.Parse.{parse}
+use Rattle.event_line.proofs.one_digit.Goals as goal
+
+pub returns-then-is_right : goal.returns-then-is_right
+unfolding parse
+returns-then-is_right c =
+    simp (
+      rw c.is_digit.ensures at (sym c.is_right.ensures ∙ c.if-is_right.true),
+      c.event_by.ensures,
+      c.wide.ensures,
+      c.less.ensures,
+    )
+
+pub returns : goal.returns
+unfolding parse
+returns c = simp (rw c.is_digit.ensures at (sym c.is_right.ensures ∙ c.if-is_right.false))
