@@ -7,7 +7,10 @@ fn main() {
     println!("cargo:rerun-if-env-changed=MUNTINORRIS_LIB");
     let directory = match env::var_os("MUNTINORRIS_LIB") {
         Some(given) => PathBuf::from(given),
-        None => PathBuf::from(env::var_os("CARGO_MANIFEST_DIR").expect("cargo sets it")).join("../crates/muntinorris/out"),
+        None => {
+            let package = env::var_os("CARGO_MANIFEST_DIR").expect("cargo sets it");
+            PathBuf::from(package).join("../crates/muntinorris/out")
+        }
     };
     let archive = directory.join("libmuntinorris.a");
     if !archive.exists() {

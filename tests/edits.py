@@ -107,7 +107,7 @@ def refusals(log, source):
 
 @functools.lru_cache(None)
 def built_on(root):
-    """For each crate of crates.txt the crates of this repository that it is built on, all the way down, and its line."""
+    """For each crate of crates.txt those of this repository that it is built on, all the way down, and its line."""
     with open(os.path.join(root, "crates.txt"), encoding="utf-8") as f:
         lines = [line.split("#")[0].strip() for line in f]
     named = {line.split(":")[0].split()[0]: line for line in lines if ":" in line}
