@@ -1,6 +1,7 @@
 // The device: its start (R1.10, R8.1, R8.2) and its bytes (section 4 of docs/RULES.md), by value, for every value of
 // the record. Reports are in crate `reports`, and both kinds of event together in crate `events`. Assumes nothing.
 #![tactic(auto)]
+
 ghost use Rattle.std.specs.Prelude.{◌≡◌};
 ghost use Rattle.device.specs.Device.{fresh_device, started, heard, byte_taken};
 

@@ -1,6 +1,7 @@
 // The end of a generator's sound, as the tone generator reports it (R7.1, R7.2), by value, for every value. Assumes
 // nothing.
 #![tactic(auto)]
+
 ghost use Rattle.std.specs.Prelude.{◌≡◌};
 ghost use Rattle.reports.specs.Reports.{reported};
 

@@ -1,6 +1,7 @@
 // What a byte touches of the record, by what it completed: the parser alone, the generators too, or all of it. By
 // value, for the calls over the lent record (`driver`). Assumes nothing.
 #![tactic(auto)]
+
 ghost use Rattle.std.specs.Prelude.{◌≡◌};
 ghost use Rattle.touched.specs.Touched.{is_quiet, quiet_answer, key_in, key_of, no_key};
 
