@@ -1,5 +1,6 @@
 // The device by its events, bytes and reports, by value, for every value of the record. Assumes nothing.
 #![tactic(auto)]
+
 ghost use Rattle.std.specs.Prelude.{◌≡◌};
 ghost use Rattle.events.specs.Events.{report_taken, taken};
 
