@@ -2,6 +2,7 @@
 // the buffer, for every value of the record.
 // Assumes nothing.
 #![tactic(auto)]
+
 ghost use Rattle.std.specs.Prelude.{◌≡◌, ◌+◌, ◌≤◌, ◌&&◌, ◌++◌, ltb, length, get_or, take, drop};
 ghost use Rattle.loops.specs.Passes.{up_to};
 ghost use Rattle.table.specs.Table.{entries_of};
