@@ -80,11 +80,34 @@ def function_at(source, place):
     return None
 
 
+# ---- what the prover says of a crate
+
+# What follows from another error, or says only that a proof file does not fit.
+EMPTY = re.compile(r"was not admitted|was rejected|that can be named from here|is not in scope|has no parameter|"
+                   r"has no field|this file exports no")
+
+
+def refusals(log, source):
+    """The functions, as proofs/ has them, and the other files in which a fact fails, and the facts by their names."""
+    places, names = set(), set()
+    for file, said in re.findall(r"(?m)^(?:\./)?((?:src|specs|proofs)/\S+?)(?::\d+:\d+)?: error: (.*(?:\n  .*)*)", log):
+        if not EMPTY.search(said):
+            proof = re.match(r"proofs/(.*)/(?:Answers|Invariants|Proof)\.antt$", file)
+            places.add(proof.group(1) if proof else file)
+            names.update(re.match(r"`([^`]+)`:|", said).groups())
+    # a goal of the code that nothing proves
+    for line, goal in re.findall(r"(?m)^note: src/lib\.rt:(\d+):\d+: it is not proved that .*?\(`([^`]+)`\)", log):
+        at = sum(len(above) + 1 for above in source.split("\n")[:int(line) - 1])
+        places.add(function_from(source, at))
+        names.add(goal)
+    return places, names - {None}
+
+
 # ---- a check of a crate with changes
 
 @functools.lru_cache(None)
 def built_on(root):
-    """For each crate of crates.txt the crates of this repository that it is built on, all the way down, and its line."""
+    """For each crate of crates.txt those of this repository that it is built on, all the way down, and its line."""
     with open(os.path.join(root, "crates.txt"), encoding="utf-8") as f:
         lines = [line.split("#")[0].strip() for line in f]
     named = {line.split(":")[0].split()[0]: line for line in lines if ":" in line}

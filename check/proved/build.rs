@@ -5,7 +5,7 @@ use std::env;
 use std::path::{Path, PathBuf};
 
 const VARIABLE: &str = "MUNTINORRIS_LIB";
-const DEFAULT: &str = "../../target/staticlib";
+const DEFAULT: &str = "../../crates/muntinorris/out";
 
 fn main() {
     println!("cargo:rerun-if-env-changed={VARIABLE}");
@@ -17,7 +17,7 @@ fn main() {
     let archive = folder.join("libmuntinorris.a");
     assert!(
         archive.is_file(),
-        "no archive at {}: build it with `rt staticlib muntinorris`, or set {VARIABLE}",
+        "no archive at {}: build it with `rt lib` in crates/muntinorris, or set {VARIABLE}",
         archive.display()
     );
     println!("cargo:rerun-if-changed={}", archive.display());
