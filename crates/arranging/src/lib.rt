@@ -2,6 +2,7 @@
 // parts of any length (R14.10), so that it may be longer than memory. What holds of every message that is written is
 // stated and proved in crate `arranged`. Assumes nothing.
 #![tactic(auto)]
+
 ghost use Rattle.std.specs.Prelude.{◌≡◌, ◌&&◌, not, ◌<◌, eqb, get_or};
 ghost use Rattle.splitter.specs.Split.{body, split};
 ghost use Rattle.sysex.specs.SysEx.{is_mip};
@@ -13,8 +14,8 @@ ghost use Rattle.arranging.specs.Run.{line_played, heard, begun_by, begun, ended
 
 use allocation::Was;
 use device::Device;
-use events::Event;
 use event_line::{Line, Meaning};
+use events::Event;
 use order::Order;
 use playing::Answer;
 use splitter::{Completed, Parser};

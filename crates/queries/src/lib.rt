@@ -1,6 +1,7 @@
 // The queries of the device (R7.3 to R7.7): they change nothing. By value, for every value of the record. Assumes
 // nothing.
 #![tactic(auto)]
+
 ghost use Rattle.std.specs.Prelude.{◌≡◌};
 ghost use Rattle.queries.specs.Queries.{generator_query, mask_query, share_query, rhythm_query};
 

@@ -2,6 +2,7 @@
 // written, with its thefts counted. That no song of n bytes makes more is stated and proved in crate `hardest`.
 // Assumes nothing.
 #![tactic(auto)]
+
 ghost use Rattle.std.specs.Prelude.{◌≡◌, ◌≤◌};
 ghost use Rattle.loops.specs.Cases.{bit};
 ghost use Rattle.allocation.specs.Allocation.{is_stolen};

@@ -1,0 +1,23 @@
+-- `arranging::play_line` meets its contract: behind a number no line is looked at; else what `event_line::read` says of the
+-- line is played.
+-- Assumes nothing.
+use mathlib.Core.Path.{sym, ap, ◌∙◌}
+use borrow.Author.Tests.{not-true, not-false}
+use lib.Dec.{eqb}
+use Rattle.event_line.specs.Log.{event_of, text_of}
+use Rattle.arranging.specs.Run.{played_by, line_played}
+use Rattle.arranging.proofs.Bytes.{by_meaning}
+use Rattle.arranging.proofs.play_line.Goals as goal
+
+pub returns-then-has_fallen : goal.returns-then-has_fallen
+unfolding line_played
+returns-then-has_fallen c =
+    simp (not-true (eqb c.args.s.number 0) (sym c.has_fallen.ensures ∙ c.if-has_fallen.true))
+
+pub returns : goal.returns
+unfolding line_played
+returns c =
+    let a = c.args in
+    simp (not-false (eqb a.s.number 0)
+    (sym c.has_fallen.ensures ∙ c.if-has_fallen.false)) (c.play_meaning.ensures
+    ∙ ap (played_by a.s) c.read.ensures ∙ by_meaning a.s (event_of (text_of a.l)))

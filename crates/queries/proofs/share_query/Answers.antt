@@ -1,0 +1,19 @@
+-- `queries::share_query` meets its contract: the channel's test, then the two cases of the share.
+-- Assumes nothing.
+use mathlib.Core.Path.{sym, ◌∙◌}
+use Rattle.queries.specs.Queries.{share_query}
+use Rattle.queries.proofs.share_query.Goals as goal
+
+pub returns-in-Masked : goal.returns-in-Masked
+unfolding share_query
+returns-in-Masked c =
+    simp (sym c.is_channel.ensures ∙ c.if-is_channel.true, sym c.share_of.ensures ∙ c.in-Masked.is)
+
+pub returns-in-Units : goal.returns-in-Units
+unfolding share_query
+returns-in-Units c =
+    simp (sym c.is_channel.ensures ∙ c.if-is_channel.true, sym c.share_of.ensures ∙ c.in-Units.is)
+
+pub returns : goal.returns
+unfolding share_query
+returns c = simp (sym c.is_channel.ensures ∙ c.if-is_channel.false)
