@@ -2,6 +2,7 @@
 // nothing here, and at their end the service page of the device, or the number of a start that was refused. The page
 // is crate `service`'s, and reading and writing are the program's. Assumes nothing.
 #![tactic(auto)]
+
 ghost use Rattle.std.specs.Prelude.{◌≤◌, ◌≡◌, length, take};
 ghost use Rattle.text.specs.Text.{Put};
 ghost use Rattle.listed.specs.Listing.{after_all};
