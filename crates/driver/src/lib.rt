@@ -3,6 +3,7 @@
 // the rest of the record is not copied for them. The other event, a report, is in crate `driver_reports`. Assumes
 // nothing.
 #![tactic(auto)]
+
 ghost use Rattle.std.specs.Prelude.{◌≡◌};
 ghost use Rattle.events.specs.Events.{taken};
 ghost use Rattle.events.specs.declared.Event.TheVariants.{Byte};

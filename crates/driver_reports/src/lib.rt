@@ -1,6 +1,7 @@
 // The driver's side of a report (R1.11, R7.1): the record is lent, and is up to date when the call returns, as the call
 // by value updates it, for every value of the record. Assumes nothing.
 #![tactic(auto)]
+
 ghost use Rattle.std.specs.Prelude.{◌≡◌};
 ghost use Rattle.events.specs.Events.{taken};
 ghost use Rattle.events.specs.declared.Event.TheVariants.{Report};

@@ -1,6 +1,7 @@
 // The answers in plain numbers, as C and Rust have them (include/muntinorris.h), by value, for every answer and every
 // record. Assumes nothing.
 #![tactic(auto)]
+
 ghost use Rattle.std.specs.Prelude.{◌≡◌};
 ghost use Rattle.loops.specs.Cases.{or_zero};
 ghost use Rattle.queries.specs.Queries.{generator_query, mask_query, share_query, rhythm_query};
