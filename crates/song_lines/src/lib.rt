@@ -2,6 +2,7 @@
 // `number,thefts` of its answer, put into a page. The song is crate `song`'s, and reading and writing are the
 // program's. Assumes nothing.
 #![tactic(auto)]
+
 ghost use Rattle.std.specs.Prelude.{◌≤◌, ◌≡◌, ◌++◌, length, take, drop};
 ghost use Rattle.text.specs.Text.{Put};
 ghost use Rattle.fields.specs.Line.{after};
