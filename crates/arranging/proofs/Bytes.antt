@@ -98,7 +98,8 @@ module _ (order most : List ℕ) (n : length order ≡ 16) (m : length most ≡ 
       → get_or order k 0 - 1 ≡ get_or (mip_message (listing order most)) i 0
   byte_channel i k e h = sym (behind i (2 * k) e (omega arith) ∙ pair_even order most k (n ∙ sym m) (omega arith))
 
-  pub byte_value : (i k : ℕ) → i ≡ 5 + (2 * k + 1) → k < 16 → get_or most k 0 ≡ get_or (mip_message (listing order most)) i 0
+  pub byte_value : (i k : ℕ) → i ≡ 5 + (2 * k + 1) → k < 16
+      → get_or most k 0 ≡ get_or (mip_message (listing order most)) i 0
   byte_value i k e h = sym (behind i (2 * k + 1) e (omega arith) ∙ pair_odd order most k (n ∙ sym m) (omega arith))
 
 -- ---- a line by what the code reads

@@ -295,7 +295,8 @@ pub parts : (order log : List ℕ) → finished (heard (begun order) log) ≡ me
 unfolding begun_by message order_of
 parts order log = go (is_order order)
   where
-    go : (t : Bool) → finished (heard (begun_by (if t then record { whole = true; channels = order } else no_order)) log)
+    go : (t : Bool)
+        → finished (heard (begun_by (if t then record { whole = true; channels = order } else no_order)) log)
         ≡ (if t then written_by order (records fresh (lines_of log))
         (told (looked_at fresh (lines_of log))) (fault fresh (lines_of log)) else refused 16 0)
     go true =
@@ -303,5 +304,6 @@ parts order log = go (is_order order)
         let k : 0 + n ≡ n = omega arith in
         comes order log fresh (replicate 16 0) 0 blank [] holds-blank refl refl (covers_fresh order)
         ∙ ap (λ (x : ℕ). outcome order (replicate 16 0) (records fresh (lines_of log)) x (fault fresh (lines_of log))) k
-        ∙ outcome_fresh order (records fresh (lines_of log)) (looked_at fresh (lines_of log)) (fault fresh (lines_of log))
+        ∙ outcome_fresh order (records fresh (lines_of log)) (looked_at fresh (lines_of log))
+        (fault fresh (lines_of log))
     go false = stays log (song fresh (replicate 16 0) (replicate 16 0) 0 16) blank refl

@@ -62,13 +62,14 @@ in_turn = refl
 pub stays_at_system_on : finished (part-heard (log-begun one_to_sixteen)
     (log (Byte 0x90 ∷ Byte 60 ∷ Byte 64 ∷ Byte 0xF0 ∷ Byte 0x7E ∷ Byte 0x7F ∷ Byte 0x09 ∷ Byte 0x01 ∷ Byte 0xF7 ∷ [])))
     ≡ whole one_to_sixteen (replicate 16 1) 9
-unfolding up_to total filter_by first_of count padded begun stored one_data_byte completed data_byte opened ended status_byte
-    split decode table_of start_table listed shares_from lookup share_of is_mip is_system_on kind_of pairs faulty judged group_of
-    excludes ages_of newest assigned silent changes state_after changed is_among leaves silenced lowest_idle wanted oldest
-    busy_count over_share steal_from victim cleared choice note_on fresh is_rhythm masked play_note_on played started new_table
-    mip_taken exclusive heard byte_taken taken report_taken reported decimal line_of loggable event_of lines_from each
-    is_order busy_on ends_mip loses_note spoils at_line fault behind_line looked_at after_line records largest values pair_bytes
-    mip_message message order_of raised blank put finished ended_by part-heard byte_heard line_played event_played begun_by
+unfolding up_to total filter_by first_of count padded begun stored one_data_byte completed data_byte opened ended
+    status_byte split decode table_of start_table listed shares_from lookup share_of is_mip is_system_on kind_of
+    pairs faulty judged group_of excludes ages_of newest assigned silent changes state_after changed is_among leaves
+    silenced lowest_idle wanted oldest busy_count over_share steal_from victim cleared choice note_on fresh
+    is_rhythm masked play_note_on played started new_table mip_taken exclusive heard byte_taken taken report_taken
+    reported decimal line_of loggable event_of lines_from each is_order busy_on ends_mip loses_note spoils at_line
+    fault behind_line looked_at after_line records largest values pair_bytes mip_message message order_of raised
+    blank put finished ended_by part-heard byte_heard line_played event_played begun_by
 stays_at_system_on = refl
 
 -- a MIP message for ID 0, without pairs, up to its last byte

@@ -28,7 +28,8 @@ module _ (l : List ℕ) (n : ℕ) (size : length l ≡ 7) where
       front (a ∷ b ∷ c ∷ []) h = absurd (omega arith)
       front (a ∷ b ∷ c ∷ d ∷ l) h = refl
 
-  pub said_5 : n ≡ 5 → event_of (take n l) ≡ parse (get_or l 0 0 ∷ get_or l 1 0 ∷ get_or l 2 0 ∷ get_or l 3 0 ∷ get_or l 4 0 ∷ [])
+  pub said_5 : n ≡ 5
+      → event_of (take n l) ≡ parse (get_or l 0 0 ∷ get_or l 1 0 ∷ get_or l 2 0 ∷ get_or l 3 0 ∷ get_or l 4 0 ∷ [])
   said_5 e = event_parse (take n l) ∙ ap parse (ap (λ (m : ℕ). take m l) e ∙ front l size)
     where
       front : (l : List ℕ) → length l ≡ 7
@@ -41,7 +42,8 @@ module _ (l : List ℕ) (n : ℕ) (size : length l ≡ 7) where
       front (a ∷ b ∷ c ∷ d ∷ e ∷ l) h = refl
 
   pub said_6 : n ≡ 6
-      → event_of (take n l) ≡ parse (get_or l 0 0 ∷ get_or l 1 0 ∷ get_or l 2 0 ∷ get_or l 3 0 ∷ get_or l 4 0 ∷ get_or l 5 0 ∷ [])
+      → event_of (take n l)
+      ≡ parse (get_or l 0 0 ∷ get_or l 1 0 ∷ get_or l 2 0 ∷ get_or l 3 0 ∷ get_or l 4 0 ∷ get_or l 5 0 ∷ [])
   said_6 e = event_parse (take n l) ∙ ap parse (ap (λ (m : ℕ). take m l) e ∙ front l size)
     where
       front : (l : List ℕ) → length l ≡ 7

@@ -2,6 +2,7 @@
 // comma between each two, and behind it the log; and what the answer is in bytes and in a line. The message is crate
 // `arranging`'s, and reading and writing are the program's. Assumes nothing.
 #![tactic(auto)]
+
 ghost use Rattle.std.specs.Prelude.{◌+◌, ◌≤◌, ◌≡◌, true, ◌++◌, length, take};
 ghost use Rattle.text.specs.Text.{Put};
 ghost use Rattle.arranging.specs.Run.{begun};

@@ -2,6 +2,7 @@
 // (include/muntinorris.h). Every one has the exact contract of the call by value that it stands for, for every value of
 // the record. Assumes nothing; a pointer that is no record is the caller's error.
 #![tactic(auto)]
+
 ghost use Rattle.std.specs.Prelude.{◌≡◌};
 ghost use Rattle.loops.specs.Cases.{or_zero};
 ghost use Rattle.device.specs.Device.{started};

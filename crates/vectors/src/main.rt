@@ -32,6 +32,7 @@
 // no answer. Before the first P the device is one with P 1 and own ID 0, and before the first O the log is one of an
 // order of no channels; O, A and E leave the device as it is, and V leaves device and log. Assumes nothing.
 #![tactic(auto)]
+
 mod answers;
 mod asked;
 mod line;

@@ -1,10 +1,9 @@
 -- `arranging::compose` meets its contract. Invariant: the first i bytes are those of the message.
 -- Assumes nothing.
-use Prim.Native.Nat.{ℕ, ◌-◌, ◌≤◌}
-use mathlib.Core.Path.{◌≡◌, refl, ◌∙◌}
-use mathlib.Core.List.{◌++◌}
+use Prim.Native.Nat.{ℕ}
+use mathlib.Core.Path.{refl, ◌∙◌}
 use native.Mathlib.Omega.{arith}
-use lib.ListN.{length, drop, get_or}
+use lib.ListN.{get_or}
 use Rattle.loops.specs.Passes.{up_to}
 use Rattle.loops.proofs.Fill.{fill_next, fill_end, up_to_list}
 use Rattle.arranging.specs.Arranging.{listing, mip_message}

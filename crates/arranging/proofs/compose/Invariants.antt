@@ -1,19 +1,17 @@
 -- `arranging::compose` meets its contract. Invariant: the first i bytes are those of the message.
 -- Assumes nothing.
-use Prim.Native.Nat.{ℕ, ◌-◌, ◌≤◌}
-use mathlib.Core.Path.{◌≡◌, refl, ◌∙◌}
+use Prim.Native.Nat.{◌-◌, ◌≤◌}
+use mathlib.Core.Path.{◌≡◌}
 use mathlib.Core.List.{◌++◌}
-use native.Mathlib.Omega.{arith}
 use lib.ListN.{length, drop, get_or}
 use Rattle.loops.specs.Passes.{up_to}
-use Rattle.loops.proofs.Fill.{fill_next, fill_end, up_to_list}
 use Rattle.arranging.specs.Arranging.{listing, mip_message}
-use Rattle.arranging.proofs.Bytes.{message-length}
 use Rattle.arranging.proofs.compose.Given as goal
 
 abbrev pub invariant-loop-i : goal.invariant-loop-i
 invariant-loop-i l =
-    (l.i ≤ 38) × (length l.initial.out ≡ 38) × (l.out ≡ up_to (λ j. get_or (mip_message (listing l.order l.most)) j 0) l.i ++ drop l.i l.initial.out)
+    (l.i ≤ 38) × (length l.initial.out ≡ 38)
+    × (l.out ≡ up_to (λ j. get_or (mip_message (listing l.order l.most)) j 0) l.i ++ drop l.i l.initial.out)
 
 abbrev pub decreases-loop-i : goal.decreases-loop-i
 decreases-loop-i l = 38 - l.i

@@ -1,5 +1,5 @@
--- `arranging::play_line` meets its contract: behind a number no line is looked at; else what `event_line::read` says of the
--- line is played.
+-- `arranging::play_line` meets its contract: behind a number no line is looked at; else what `event_line::read` says of
+-- the line is played.
 -- Assumes nothing.
 use mathlib.Core.Path.{sym, ap, ◌∙◌}
 use borrow.Author.Tests.{not-true, not-false}

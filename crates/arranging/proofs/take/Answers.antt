@@ -1,13 +1,11 @@
 -- `arranging::take` meets its contract. Invariant: what is left of the part, heard by the song and the line so far, is
 -- the whole part heard by the run.
 -- Assumes nothing.
-use Prim.Native.Nat.{◌-◌, ◌≤◌}
-use mathlib.Core.Path.{◌≡◌, refl, sym, ap, ◌∙◌}
+use mathlib.Core.Path.{refl, sym, ap, ◌∙◌}
 use native.Mathlib.Omega.{arith}
-use lib.ListN.{length, drop}
 use Rattle.event_line.specs.declared.Line.{Line}
 use Rattle.event_line.specs.Log.{text_of}
-use Rattle.arranging.specs.Run.{line_played, run, heard}
+use Rattle.arranging.specs.Run.{line_played, run}
 use Rattle.arranging.proofs.Parts.{heard-line, heard_byte, heard_end}
 use Rattle.arranging.proofs.take.Goals as goal
 

@@ -71,8 +71,8 @@ module _ (h : Device) (n : ℕ) (k : Completed) where
 
 pub returns-then-k : goal.returns-then-k
 returns-then-k c =
-    note_way c.args.d.now c.args.b c.args.c c.after-d.result c.after-d.ensures c.key_of-k.result c.note.result c.note.new.d
-    c.key_of-k.ensures c.if-k.true c.note.ensures
+    note_way c.args.d.now c.args.b c.args.c c.after-d.result c.after-d.ensures c.key_of-k.result c.note.result
+    c.note.new.d c.key_of-k.ensures c.if-k.true c.note.ensures
 
 pub returns : goal.returns
 returns c =

@@ -9,7 +9,8 @@ use Rattle.service.proofs.put_rows.Given as goal
 
 abbrev pub invariant-loop-n : goal.invariant-loop-n
 invariant-loop-n l =
-    (l.n ≤ 16) × (323 ≤ length l.initial.page) × Rows (entries_of l.t) l.p (λ c. get_or l.busy c 0) l.initial.page l.n l.page
+    (l.n ≤ 16) × (323 ≤ length l.initial.page)
+    × Rows (entries_of l.t) l.p (λ c. get_or l.busy c 0) l.initial.page l.n l.page
 
 abbrev pub decreases-loop-n : goal.decreases-loop-n
 decreases-loop-n l = 16 - l.n

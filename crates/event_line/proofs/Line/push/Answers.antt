@@ -1,4 +1,5 @@
--- `event_line::Line::push` meets its contract: below 7 the byte goes to the place of the count, from 7 on nothing changes.
+-- `event_line::Line::push` meets its contract: below 7 the byte goes to the place of the count, from 7 on nothing
+-- changes.
 -- Assumes nothing.
 use borrow.Author.Tests.{lt-ltb, le-ltb}
 use Rattle.event_line.specs.Log.{put}

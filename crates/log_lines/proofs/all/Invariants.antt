@@ -1,0 +1,21 @@
+-- `log_lines::all`: in the log all is heard at once. In the order's line the invariant is that what is left of the
+-- bytes, read by what is kept, is all of them; the measure is what is left.
+-- Assumes nothing.
+use Prim.Native.Nat.{◌+◌, ◌-◌, ◌≤◌}
+use mathlib.Core.Path.{◌≡◌, refl, sym, ap, ◌∙◌}
+use mathlib.Core.Bool.{Bool, true, false}
+use native.Mathlib.Omega.{arith}
+use lib.ListN.{length, take, drop}
+use Rattle.arranging.specs.declared.Run.{Run}
+use Rattle.arranging.specs.Run.{heard}
+use Rattle.log_lines.specs.declared.OrderLine.{OrderLine}
+use Rattle.log_lines.specs.LogLines.{reading, bytes_read}
+use Rattle.log_lines.proofs.Input.{in_log, in_order, at_end, at_byte, no_more}
+use Rattle.log_lines.proofs.all.Given as goal
+
+abbrev pub invariant-loop-i : goal.invariant-loop-i
+invariant-loop-i l = (l.i ≤ length l.bytes)
+    × (bytes_read (reading false l.order l.c.run) (drop l.i l.bytes) ≡ bytes_read (reading false l.initial.order l.c.run) l.bytes)
+
+abbrev pub decreases-loop-i : goal.decreases-loop-i
+decreases-loop-i l = length l.bytes - l.i

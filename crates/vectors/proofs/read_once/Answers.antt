@@ -1,0 +1,14 @@
+-- `vectors::read_once`: the bytes that came are within the input's array.
+-- Assumes nothing.
+use Rattle.console.proofs.Came.{came}
+use Rattle.vectors.proofs.read_once.Goals as goal
+
+pub slice_bounds-input-end : goal.slice_bounds-input-end
+slice_bounds-input-end c =
+    let r = c.read-got in
+    (came _ r.result _ c.in-Bytes.is r.ensures).0
+
+pub slice_bounds-all-end : goal.slice_bounds-all-end
+slice_bounds-all-end c =
+    let r = c.read-got in
+    (came _ r.result _ c.in-Bytes.is r.ensures).1
