@@ -3,6 +3,7 @@
 // is written before more is waited for; the answers to requests of songs, and of a log, go to standard error. What the
 // bytes answer is in crates `listed`, `pitch_lines`, `song_lines`, `log_lines` and `page_lines`. Assumes nothing.
 #![tactic(auto)]
+
 ghost use Rattle.std.specs.Prelude.{◌≤◌};
 
 use arranging::Written;
