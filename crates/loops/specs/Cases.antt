@@ -1,5 +1,5 @@
 -- Two tests that differ, a test as a number, and a number that may be missing.
-use Rattle.std.specs.Prelude.{Bool, true, false, not, ◌&&◌, ◌||◌, ℕ, ltb, if◌then◌else◌, if◌then◌else◌, if◌then◌else◌, if◌then◌else◌}
+use Rattle.std.specs.Prelude.{Bool, true, false, not, ◌&&◌, ◌||◌, ℕ, ltb, if◌then◌else◌, if◌then◌else◌, if◌then◌else◌}
 use Rattle.std.proofs.Math.Option.{Option, some, none}
 
 abbrev pub differ : Bool → Bool → Bool

@@ -1,7 +1,6 @@
 -- `filters::answer_all` ends, since each turn reads a byte more.
 -- Assumes nothing.
-use Prim.Native.Nat.{◌-◌}
-use lib.ListN.{length}
+use Rattle.std.proofs.Common.{◌-◌, length}
 use Rattle.filters.proofs.answer_all.Given as goal
 
 abbrev pub invariant-loop-i : goal.invariant-loop-i
