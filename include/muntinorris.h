@@ -65,7 +65,8 @@
  *
  * The machine. libmuntinorris.a is for programs on x86-64 Linux, on any such processor. It is some 43 KB of code and
  * constants, has no data, and calls memcpy and memset of the C library and nothing else. A byte takes up to some 3.4 KB
- * of stack, a report 1.6 KB; calls that take more say so below, and docs/PERFORMANCE.md has all figures.
+ * of stack, a report 1.6 KB; calls that take more say so below, and docs/PERFORMANCE.md has all figures. Those of the
+ * stack were measured on the build of an older kit.
  *
  * Channels are 1 to 16, as musicians count them; the wire carries the channel minus 1. What the device does is written
  * as numbered rules in the repository's docs/RULES.md: a rule has a number such as R5.9, and number n below is rule
