@@ -16,7 +16,8 @@ import sys
 
 # One word of a proof file, of a clause or of a page's code.
 WORD = re.compile(r"(?:\w|['′?-])+")
-HEAD = re.compile(r"^(?: +pub |(?:(?:abbrev|unfoldable) )?(?:pub )?)(?:(record|data) )?([^\s:(){}=,;`]+)(?= [^=\n]*:(?!:)| :)", re.M)
+HEAD = re.compile(
+    r"^(?: +pub |(?:(?:abbrev|unfoldable) )?(?:pub )?)(?:(record|data) )?([^\s:(){}=,;`]+)(?= [^=\n]*:(?!:)| :)", re.M)
 # Names by which the kit asks for a proof, and which stay as it spells them.
 MADE = re.compile(r"^(?:loop|returns|invariant|decreases|array_read|array-read|overflow|slice|call|main)(?:-|$)")
 # A lemma with the name that a definition now gets, and two names that stand within others.
@@ -26,7 +27,8 @@ LIBRARY = {"length", "take", "drop", "map", "set", "get_or", "replicate", "appen
 
 
 def proof_files():
-    for path in sorted(glob.glob("crates/*/specs/**/*.antt", recursive=True) + glob.glob("crates/*/proofs/**/*.antt", recursive=True)):
+    patterns = ("crates/*/specs/**/*.antt", "crates/*/proofs/**/*.antt")
+    for path in sorted(path for pattern in patterns for path in glob.glob(pattern, recursive=True)):
         if os.sep + "out" + os.sep not in path:
             yield path
 
