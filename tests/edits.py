@@ -96,8 +96,11 @@ def refusals(log, source):
             places.add(proof.group(1) if proof else file)
             names.update(re.match(r"`([^`]+)`:|", said).groups())
     # a goal of the code that nothing proves
+    lines = source.split("\n")
     for line, goal in re.findall(r"(?m)^note: src/lib\.rt:(\d+):\d+: it is not proved that .*?\(`([^`]+)`\)", log):
-        at = sum(len(above) + 1 for above in source.split("\n")[:int(line) - 1])
+        # an exported function's place is that of its attribute
+        head = next((i for i in range(int(line) - 1, len(lines)) if not lines[i].lstrip().startswith("#[")), 0)
+        at = sum(len(above) + 1 for above in lines[:head])
         places.add(function_from(source, at))
         names.add(goal)
     return places, names - {None}
