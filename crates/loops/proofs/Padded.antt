@@ -1,6 +1,5 @@
 -- A list in an array that has room for more: its elements stand first, and the next one goes to the place after them.
 -- Assumes nothing.
-use Rattle.std.specs.Prelude.{if◌then◌else◌}
 use mathlib.Core.Path.{◌≡◌, refl, sym, ap, ◌∙◌}
 use mathlib.Core.List.{List, [], ◌∷◌, ◌++◌, append_assoc}
 use Prim.Native.Nat.{ℕ, zero, suc, ◌+◌, ◌-◌, ◌≤◌, ◌<◌}
@@ -69,23 +68,19 @@ padded-full z n l m h =
     ∙ sym (take-append-le n l (replicate n z) h)
 
 pub at_most_le : (m n : ℕ) → at_most m n ≤ m
-at_most_le m n = go (ltb n m) refl
-  where
-    go : (b : Bool) → ltb n m ≡ b → (if b then n else m) ≤ m
-    go true t = let h : n < m = ltb-true n m t in omega arith
-    go false t = omega arith
+at_most_le m n = omega arith
 
 -- the first n elements of an array of m places, where n may be above m
 pub take-at_most : {A : Type 0} (m n : ℕ) (l : List A) → length l ≡ m → take (at_most m n) l ≡ take n l
 take-at_most m n l e = go (ltb n m) refl
   where
-    go : (b : Bool) → ltb n m ≡ b → take (if b then n else m) l ≡ take n l
-    go true t = refl
-    go false t = let h = ltb-false n m t in take_all m l (omega arith) ∙ sym (take_all n l (omega arith))
+    go : (b : Bool) → ltb n m ≡ b → take (at_most m n) l ≡ take n l
+    go true t = let h = ltb-true n m t in ap (λ (k : ℕ). take k l) (omega arith)
+    go false t = let h = ltb-false n m t in take_all (at_most m n) l (omega arith) ∙ sym (take_all n l (omega arith))
 
 pub length-at_most : {A : Type 0} (m n : ℕ) (l : List A) → length l ≡ m → length (take n l) ≡ at_most m n
 length-at_most m n l e = go (ltb n m) refl
   where
-    go : (b : Bool) → ltb n m ≡ b → length (take n l) ≡ (if b then n else m)
-    go true t = let h = ltb-true n m t in length-take-le n l (omega arith)
-    go false t = let h = ltb-false n m t in ap length (take_all n l (omega arith)) ∙ e
+    go : (b : Bool) → ltb n m ≡ b → length (take n l) ≡ at_most m n
+    go true t = let h = ltb-true n m t in length-take-le n l (omega arith) ∙ omega arith
+    go false t = let h = ltb-false n m t in ap length (take_all n l (omega arith)) ∙ omega arith

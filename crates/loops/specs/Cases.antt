@@ -1,5 +1,6 @@
 -- Two tests that differ, a test as a number, and a number that may be missing.
-use Rattle.std.specs.Prelude.{Bool, true, false, not, ◌&&◌, ◌||◌, ℕ, ltb, if◌then◌else◌, if◌then◌else◌, if◌then◌else◌}
+use Rattle.std.specs.Prelude.{Bool, not, ◌&&◌, ◌||◌, ℕ, min}
+use Rattle.std.specs.Int.{from_bool}
 use Rattle.std.proofs.Math.Option.{Option, some, none}
 
 abbrev pub differ : Bool → Bool → Bool
@@ -7,12 +8,11 @@ differ a b = a && not b || not a && b
 
 -- 1 where the test holds, 0 where not: what counting adds up
 abbrev pub bit : Bool → ℕ
-bit true = 1
-bit false = 0
+bit b = from_bool b
 
 -- n, but at most m
 abbrev pub at_most : ℕ → ℕ → ℕ
-at_most m n = if ltb n m then n else m
+at_most m n = min n m
 
 -- a number, 0 where there is none
 abbrev pub or_zero : Option ℕ → ℕ
