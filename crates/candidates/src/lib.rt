@@ -25,15 +25,6 @@ pub enum Want {
     BusyOn(u8),
 }
 
-// What a search found.
-#[derive(Clone, Copy)]
-pub enum Found {
-    // A generator, by its number.
-    At(u8),
-    // No generator that fits.
-    Nothing,
-}
-
 // Whether a generator with this state and channel is wanted.
 fn is_wanted(want: Want, state: u8, channel: u8) -> bool
     ensures { result ≡ wanted want (generator state channel 0) }
@@ -73,7 +64,7 @@ fn marks(state: [u8; 64], channel: [u8; 64], want: Want) -> [u8; 256]
 }
 
 // The oldest generator with a mark.
-fn first_marked(order: Ages, marks: [u8; 256]) -> Found
+fn first_marked(order: Ages, marks: [u8; 256]) -> Option<u8>
     ensures { result ≡ found (first_of (λ g. not (eqb (get_or marks g 0) 0)) (oldest_first order)) }
 {
     let numbers = order.generator;
@@ -83,15 +74,15 @@ fn first_marked(order: Ages, marks: [u8; 256]) -> Found
         let g = numbers[i];
         let mark = loops::place(g);
         if marks[mark] != 0 {
-            return Found::At(g);
+            return Some(g);
         }
         i += 1;
     }
-    Found::Nothing
+    None
 }
 
 // Step 4 of a note-on: the idle generator of lowest number among the first P.
-pub fn lowest_idle(generators: Generators, polyphony: u8) -> Found
+pub fn lowest_idle(generators: Generators, polyphony: u8) -> Option<u8>
     ensures { result ≡ lowest_idle generators polyphony }
 {
     let state = generators.state;
@@ -100,21 +91,21 @@ pub fn lowest_idle(generators: Generators, polyphony: u8) -> Found
     while g < n {
         let i = g as usize;
         if state[i] == generators::IDLE {
-            return Found::At(g);
+            return Some(g);
         }
         g += 1;
     }
-    Found::Nothing
+    None
 }
 
 // The oldest generator of those wanted. Mostly there is none: the order of age is gone through only where there is one.
-pub fn oldest(generators: Generators, want: Want) -> Found
+pub fn oldest(generators: Generators, want: Want) -> Option<u8>
     ensures { result ≡ oldest want generators }
 {
     let state = generators.state;
     let channel = generators.channel;
     if how_many(state, channel, want) == 0 {
-        return Found::Nothing;
+        return None;
     }
     let order = generators.ages;
     first_marked(order, marks(state, channel, want))
