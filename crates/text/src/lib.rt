@@ -19,10 +19,8 @@ pub fn put(page: &mut [u8], at: usize, text: &[u8]) -> usize
     ensures { Put page.old at text.now result page.new }
 {
     let mut k = at;
-    let mut i = 0;
-    while i < text.len() {
-        k = put_byte(page, k, text[i]);
-        i += 1;
+    for &b in text {
+        k = put_byte(page, k, b);
     }
     k
 }
@@ -36,14 +34,12 @@ pub fn put_number(page: &mut [u8], at: usize, n: u64) -> usize
     put(page, at, &digits[..k])
 }
 
+#[tactic(auto, unfolding(crate::specs::Text::hex_digit))]
 fn hex_digit(d: u8) -> u8
     requires { d < 16 }
     ensures { result ≡ hex_digit d }
 {
-    if d < 10 {
-        return b'0' + d;
-    }
-    b'A' + (d - 10)
+    if d < 10 { b'0' + d } else { b'A' + (d - 10) }
 }
 
 fn put_hex(page: &mut [u8], at: usize, b: u8) -> usize
@@ -57,10 +53,7 @@ fn put_hex(page: &mut [u8], at: usize, b: u8) -> usize
 fn put_blank(page: &mut [u8], at: usize, i: usize) -> usize
     ensures { Put page.old at (blank_at i) result page.new }
 {
-    if i == 0 {
-        return at;
-    }
-    put_byte(page, at, b' ')
+    if i == 0 { at } else { put_byte(page, at, b' ') }
 }
 
 // Bytes as two hexadecimal digits each, capital ones, with a blank between each two bytes.
@@ -68,11 +61,9 @@ pub fn put_bytes(page: &mut [u8], at: usize, bytes: &[u8]) -> usize
     ensures { Put page.old at (hexadecimals bytes.now) result page.new }
 {
     let mut k = at;
-    let mut i = 0;
-    while i < bytes.len() {
+    for (i, &b) in bytes.iter().enumerate() {
         let l = put_blank(page, k, i);
-        k = put_hex(page, l, bytes[i]);
-        i += 1;
+        k = put_hex(page, l, b);
     }
     k
 }

@@ -1,14 +1,10 @@
--- `text::put`: at turn i the first i bytes of the text are put. The measure is what is left of the text.
+-- `text::put`: before the byte at an index the bytes before it are put.
 -- Assumes nothing.
-use Prim.Native.Nat.{◌≤◌, ◌-◌}
 use mathlib.Core.Path.{◌≡◌}
 use lib.ListN.{length, take}
 use Rattle.text.specs.Text.{Put}
 use Rattle.text.proofs.put.Given as goal
 
-abbrev pub invariant-loop-i : goal.invariant-loop-i
-invariant-loop-i l =
-    (l.i ≤ length l.text) × (length l.page ≡ length l.initial.page) × Put l.initial.page l.at (take l.i l.text) l.k l.page
-
-abbrev pub decreases-loop-i : goal.decreases-loop-i
-decreases-loop-i l = length l.text - l.i
+abbrev pub invariant-loop-b : goal.invariant-loop-b
+invariant-loop-b l =
+    (length l.page ≡ length l.initial.page) × Put l.initial.page l.at (take l.b-index l.text) l.k l.page
