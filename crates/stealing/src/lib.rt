@@ -5,18 +5,8 @@
 ghost use Rattle.std.specs.Prelude.{◌≡◌, ◌-◌, ◌&&◌, leb, ltb};
 ghost use Rattle.stealing.specs.Stealing.{counted, steal_from, victim};
 
-use candidates::Found;
 use generators::Generators;
 use table::{Entry, Table};
-
-// The channel to steal from.
-#[derive(Clone, Copy)]
-enum Loser {
-    // The channel of lowest priority among those over their share, the new note counted.
-    Channel(u8),
-    // No channel is over its share.
-    Nobody,
-}
 
 // Whether the channel of an entry, unmasked, is over its share with a new note of `channel`.
 fn is_over(generators: Generators, entry: Entry, before: u8, polyphony: u8, channel: u8) -> bool
@@ -32,7 +22,7 @@ fn is_over(generators: Generators, entry: Entry, before: u8, polyphony: u8, chan
 }
 
 // The channel of lowest priority over its share: from the end of the table, so that mostly few channels are counted.
-fn steal_from(generators: Generators, table: Table, polyphony: u8, channel: u8) -> Loser
+fn steal_from(generators: Generators, table: Table, polyphony: u8, channel: u8) -> Option<u8>
     ensures { result ≡ steal_from generators table polyphony channel }
 {
     let entries = table.entries;
@@ -45,19 +35,18 @@ fn steal_from(generators: Generators, table: Table, polyphony: u8, channel: u8) 
         let x = entries[loops::less(i, 1) as usize];
         let before = loops::if_else(i == 0, 0, x.value);
         if is_over(generators, e, before, polyphony, channel) {
-            return Loser::Channel(e.channel);
+            return Some(e.channel);
         }
     }
-    Loser::Nobody
+    None
 }
 
 // The generator that a new note of the channel steals where all are busy: of the channel to steal from the oldest
 // sustained one, and the oldest held one where none is sustained.
-pub fn victim(generators: Generators, table: Table, polyphony: u8, channel: u8) -> Found
+#[tactic(auto, unfolding(crate::specs::Stealing::victim))]
+pub fn victim(generators: Generators, table: Table, polyphony: u8, channel: u8) -> Option<u8>
     ensures { result ≡ victim generators table polyphony channel }
 {
-    let Loser::Channel(d) = steal_from(generators, table, polyphony, channel) else {
-        return Found::Nothing;
-    };
+    let d = steal_from(generators, table, polyphony, channel)?;
     candidates::oldest(generators, candidates::stolen_first(generators, d))
 }
