@@ -4,20 +4,20 @@
 use mathlib.Core.Path.{◌≡◌, refl}
 use native.Mathlib.Omega.{arith}
 use lib.IntN.{pos, negsuc}
-use Rattle.pitch.specs.declared.PitchAnswer.TheVariants.{Sounds}
+use Rattle.std.specs.Prelude.{Ok}
 use Rattle.pitch.specs.Pitch.{position, pitch_at, pitch_of, pitch_in, Lower}
 use Rattle.pitch.proofs.Roots.{entry_at}
 use Rattle.pitch.proofs.Rising.{higher_position_higher_pitch}
 
-pub lowest : pitch_of 0 24 0 ≡ Sounds (record { octave = negsuc 1; entry = 65536 })
+pub lowest : pitch_of 0 24 0 ≡ Ok (record { octave = negsuc 1; entry = 65536 })
 unfolding pitch_of pitch_at position
 lowest = rw (entry_at 0 (omega arith)) refl
 
-pub highest : pitch_of 127 24 16383 ≡ Sounds (record { octave = pos 12; entry = 97839 })
+pub highest : pitch_of 127 24 16383 ≡ Ok (record { octave = pos 12; entry = 97839 })
 unfolding pitch_of pitch_at position
 highest = rw (entry_at 111 (omega arith)) refl
 
-pub just_below_centre : pitch_of 60 1 8191 ≡ Sounds (record { octave = pos 4; entry = 130599 })
+pub just_below_centre : pitch_of 60 1 8191 ≡ Ok (record { octave = pos 4; entry = 130599 })
 unfolding pitch_of pitch_at position
 just_below_centre = rw (entry_at 191 (omega arith)) refl
 

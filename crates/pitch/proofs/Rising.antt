@@ -3,7 +3,7 @@
 -- since each entry is from 65536 on and below twice that. The fractions are then compared crosswise. Last, the octaves
 -- of the positions that calls give.
 -- Assumes nothing.
-use Rattle.std.specs.Prelude.{if◌then◌else◌}
+use Rattle.std.specs.Prelude.{if◌then◌else◌, Ok, Err}
 use mathlib.Core.Path.{◌≡◌, refl, sym, ap, subst}
 use mathlib.Core.Bool.{Bool, true, false, true≢false, cond, ◌||◌}
 use Prim.Native.Nat.{ℕ, zero, suc, ◌+◌, ◌-◌, ◌*◌, ◌/◌, ◌%◌, ◌^◌, ◌≤◌, ◌<◌}
@@ -18,7 +18,7 @@ use lib.Pow.{pow_pos, pow_mono}
 use lib.Signed.{lt_z, ◌≤ℤ◌, ◌<ℤ◌, le_z_yes}
 use borrow.Author.Tests.{ltb-true, ltb-false, le-ltb, eqb-true, eqb-false}
 use Rattle.pitch.specs.declared.Pitch.{Pitch}
-use Rattle.pitch.specs.declared.PitchAnswer.TheVariants.{Sounds, OutOfRange}
+use Rattle.refusals.specs.declared.Refusal.TheVariants as refusal
 use Rattle.pitch.specs.Pitch.{position, entry, pitch_at, is_out, pitch_of, pitch_in, Lower}
 use Rattle.pitch.proofs.Roots.{entry_at, rises, from_first, to_twice}
 use Rattle.pitch.proofs.Floor.{octave_of, rest_of, position_of, raised_below}
@@ -173,8 +173,8 @@ unfolding pitch_of pitch_at
 octave_range k s b = go (is_out k s b) refl
   where
     go : (t : Bool) → is_out k s b ≡ t
-        → (negsuc 1 ≤ℤ (pitch_in (if t then OutOfRange else Sounds (pitch_at (position k s b)))).octave)
-        × ((pitch_in (if t then OutOfRange else Sounds (pitch_at (position k s b)))).octave ≤ℤ pos 12)
+        → (negsuc 1 ≤ℤ (pitch_in (if t then Err refusal.PitchOutOfRange else Ok (pitch_at (position k s b)))).octave)
+        × ((pitch_in (if t then Err refusal.PitchOutOfRange else Ok (pitch_at (position k s b)))).octave ≤ℤ pos 12)
     go true e = (le_z_yes tt, le_z_yes tt)
     go false e =
         let w = within k s b e in

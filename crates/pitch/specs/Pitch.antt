@@ -1,13 +1,14 @@
 -- The pitch of a note (section 11 of docs/RULES.md), by its key, the sensitivity and the bend of its channel.
 -- Assumes nothing.
 use Rattle.std.specs.Prelude.{ℕ, zero, suc, ◌+◌, ◌-◌, ◌*◌, ◌/◌, ◌%◌, ◌^◌, ◌<◌, Bool, ◌||◌, leb, ltb, if◌then◌else◌}
-use Rattle.std.specs.Prelude.{ℤ, pos, negsuc, ◌+ℤ◌, ◌*ℤ◌}
+use Rattle.std.specs.Prelude.{ℤ, pos, negsuc, ◌+ℤ◌, ◌*ℤ◌, Result, Ok, Err}
 use Rattle.std.proofs.Math.Option.{Option, some, none}
 use Rattle.std.specs.Float.Ieee.{up, down}
 use Rattle.std.proofs.Math.IntN.{sub_ℕ}
 use Rattle.pitch.specs.declared.Pitch.{Pitch}
-use Rattle.pitch.specs.declared.PitchAnswer.{PitchAnswer}
-use Rattle.pitch.specs.declared.PitchAnswer.TheVariants.{Sounds, OutOfRange}
+use Rattle.refusals.specs.declared.Refusal.{Refusal}
+use Rattle.refusals.specs.declared.Refusal.TheVariants as refusal
+use Rattle.refusals.specs.Refusals.{number}
 
 -- the floor of a quotient, toward minus infinity (`negsuc n` is -(n + 1)), and what remains, 0 to d - 1
 abbrev pub floor_div : ℤ → ℕ → ℤ
@@ -41,18 +42,18 @@ pitch_at p = record { octave = floor_div p 192; entry = entry (rest p 192) }
 abbrev pub is_out : ℕ → ℕ → ℕ → Bool
 is_out k s b = ltb 127 k || (ltb 24 s || ltb 16383 b)
 
-unfoldable pub pitch_of : ℕ → ℕ → ℕ → PitchAnswer
-pitch_of k s b = if is_out k s b then OutOfRange else Sounds (pitch_at (position k s b))
+unfoldable pub pitch_of : ℕ → ℕ → ℕ → Result Pitch Refusal
+pitch_of k s b = if is_out k s b then Err refusal.PitchOutOfRange else Ok (pitch_at (position k s b))
 
 -- R8.21: the number of the answer
-abbrev pub pitch_number : PitchAnswer → Option ℕ
-pitch_number (Sounds p) = none
-pitch_number OutOfRange = some 21
+abbrev pub pitch_number : Result Pitch Refusal → Option ℕ
+pitch_number (Ok p) = none
+pitch_number (Err r) = some (number r)
 
 -- R11.5: what a refused call answers beside its number
-abbrev pub pitch_in : PitchAnswer → Pitch
-pitch_in (Sounds p) = p
-pitch_in OutOfRange = record { octave = pos 0; entry = 65536 }
+abbrev pub pitch_in : Result Pitch Refusal → Pitch
+pitch_in (Ok p) = p
+pitch_in (Err r) = record { octave = pos 0; entry = 65536 }
 
 -- R11.4: a pitch that is lower than another: a pitch is its entry times 2 to the power of its octave, which is the
 -- fraction up / down

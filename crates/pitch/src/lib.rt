@@ -7,19 +7,13 @@ ghost use Rattle.std.specs.Prelude.{◌≡◌, ◌<◌, ◌/◌, ◌%◌};
 ghost use Rattle.std.proofs.Math.IntN.{sub_ℕ};
 ghost use Rattle.pitch.specs.Pitch.{position, entry, pitch_of};
 
+use refusals::Refusal;
+
 // A pitch: its entry times 2 to the power of its octave.
 #[derive(Clone, Copy)]
 pub struct Pitch {
     pub octave: i8,
     pub entry: u32,
-}
-
-#[derive(Clone, Copy)]
-pub enum PitchAnswer {
-    // The pitch of the note.
-    Sounds(Pitch),
-    // Number 21.
-    OutOfRange,
 }
 
 // The entries of an octave: 65536 times the 192nd roots of 2 to the power 0 to 191, rounded down. Half a semitone a
@@ -138,31 +132,18 @@ fn octave(n: u32) -> i8
     requires { n < 2880 }
     ensures { result ≡ sub_ℕ (n / 192) 2 }
 {
-    let o = n / 192;
-    if o == 0 {
-        return -2;
-    }
-    if o == 1 {
-        return -1;
-    }
-    (o - 2) as i8
+    (n / 192) as i8 - 2
 }
 
 // The pitch of a key, with the sensitivity (0 to 24 semitones) and the bend (0 to 16383, centre 8192) of its channel.
-pub fn pitch_of(key: u8, sensitivity: u8, bend: u16) -> PitchAnswer
+pub fn pitch_of(key: u8, sensitivity: u8, bend: u16) -> Result<Pitch, Refusal>
     ensures { result ≡ pitch_of key sensitivity bend }
 {
-    if 127 < key {
-        return PitchAnswer::OutOfRange;
-    }
-    if 24 < sensitivity {
-        return PitchAnswer::OutOfRange;
-    }
-    if 16383 < bend {
-        return PitchAnswer::OutOfRange;
+    if 127 < key || 24 < sensitivity || 16383 < bend {
+        return Err(Refusal::PitchOutOfRange);
     }
     let n = raised(key, sensitivity, bend);
-    PitchAnswer::Sounds(Pitch {
+    Ok(Pitch {
         octave: octave(n),
         entry: entry_at(n % 192),
     })
