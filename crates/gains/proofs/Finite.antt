@@ -1,12 +1,13 @@
 -- A gain is a number, refused or not: what reads its bits asks that.
 -- Assumes nothing.
+use Rattle.std.specs.Prelude.{Result}
 use mathlib.Core.Path.{sym, subst}
 use mathlib.Core.Bool.{Bool, true, false, not}
 use Prim.Native.Nat.{ℕ, ◌-◌}
 use lib.Dec.{T}
 use lib.Ieee.{Float, nan, inf, fin, of_bits, is_nan}
+use Rattle.refusals.specs.declared.Refusal.{Refusal}
 use Rattle.gains.specs.declared.Gains.{Gains}
-use Rattle.gains.specs.declared.GainsAnswer.{GainsAnswer}
 use Rattle.gains.specs.Gains.{weight, panned, Near, is_out, Gives, gains_in, Answered}
 
 abbrev IsNumber : Float → Type 0
@@ -24,6 +25,6 @@ gives_numbers true e v p g h = subst (λ (x : Gains). IsNumber x.left × IsNumbe
 gives_numbers false e v p g h =
     (near_number e v (weight (126 - panned p)) g.left h.0, near_number e v (weight (panned p)) g.right h.1)
 
-pub numbers : (e v p : ℕ) (a : GainsAnswer) → Answered e v p a
+pub numbers : (e v p : ℕ) (a : Result Gains Refusal) → Answered e v p a
     → T (not (is_nan (gains_in a).left)) × T (not (is_nan (gains_in a).right))
 numbers e v p a h = gives_numbers (is_out e v p) e v p (gains_in a) h.1

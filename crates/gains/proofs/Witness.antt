@@ -2,6 +2,7 @@
 -- promises where a hand can check it; then what the laws of a table say of any table. A definition loosened behind its
 -- name would not give these facts.
 -- Assumes nothing.
+use Rattle.std.specs.Prelude.{Result}
 use mathlib.Core.Path.{◌≡◌, refl}
 use mathlib.Core.Bool.{true, false}
 use mathlib.Core.Option.{some, none}
@@ -11,7 +12,8 @@ use lib.Dec.{lit≤}
 use lib.IntN.{ℤ, pos, negsuc}
 use lib.Ieee.{nan, inf, fin, of_bits}
 use Rattle.channels.specs.declared.Channel.{Channel}
-use Rattle.gains.specs.declared.GainsAnswer.{GainsAnswer}
+use Rattle.refusals.specs.declared.Refusal.{Refusal}
+use Rattle.gains.specs.declared.Gains.{Gains}
 use Rattle.gains.specs.Within.{Within, AtMost1, Is0}
 use Rattle.gains.specs.Gains.{weight, Weighs, gains_number, gains_in, Answered, AnsweredOf}
 
@@ -52,48 +54,48 @@ least_not_0 h = let k : ◌≡◌ {A = ℕ} 1 0 = h in omega arith
 -- ---- calls: 260144641 is 127 to the power 4
 
 -- full level at pan 64, the centre: weight 63 on both sides
-pub centre : (a : GainsAnswer) → Answered 127 127 64 a
+pub centre : (a : Result Gains Refusal) → Answered 127 127 64 a
     → Within 1000000 (gains_in a).left (260144641 * 23170) (260144641 * 32768)
     × Within 1000000 (gains_in a).right (260144641 * 23170) (260144641 * 32768)
 unfolding weight
 centre a h = (h.1.0.0, h.1.1.0)
 
 -- half the expression and a third of the volume, full right: 64 squared times 42 squared, and nothing on the left
-pub quiet_and-right : (a : GainsAnswer) → Answered 64 42 127 a
+pub quiet_and-right : (a : Result Gains Refusal) → Answered 64 42 127 a
     → Within 1000000 (gains_in a).left 0 (260144641 * 32768)
     × Within 1000000 (gains_in a).right (4096 * 1764 * 32768) (260144641 * 32768)
 unfolding weight
 quiet_and-right a h = (h.1.0.0, h.1.1.0)
 
-pub never_louder : (a : GainsAnswer) → Answered 127 127 1 a → AtMost1 (gains_in a).left × AtMost1 (gains_in a).right
+pub never_louder : (a : Result Gains Refusal) → Answered 127 127 1 a → AtMost1 (gains_in a).left × AtMost1 (gains_in a).right
 never_louder a h = (h.1.0.1, h.1.1.1)
 
 -- at full left nothing is heard on the right, and with volume 0 nothing on either side
-pub silent-right : (a : GainsAnswer) → Answered 127 127 1 a → Is0 (gains_in a).right
+pub silent-right : (a : Result Gains Refusal) → Answered 127 127 1 a → Is0 (gains_in a).right
 unfolding weight
 silent-right a h = h.1.1.2 refl
 
-pub silent_both : (a : GainsAnswer) → Answered 127 0 64 a → Is0 (gains_in a).left × Is0 (gains_in a).right
+pub silent_both : (a : Result Gains Refusal) → Answered 127 0 64 a → Is0 (gains_in a).left × Is0 (gains_in a).right
 unfolding weight
 silent_both a h = (h.1.0.2 refl, h.1.1.2 refl)
 
 -- pan 0 has no place of its own
-pub pan_0_as_1 : (a : GainsAnswer) → Answered 127 127 0 a → Answered 127 127 1 a
+pub pan_0_as_1 : (a : Result Gains Refusal) → Answered 127 127 0 a → Answered 127 127 1 a
 pan_0_as_1 a h = h
 
-pub accepted : (a : GainsAnswer) → Answered 127 127 127 a → gains_number a ≡ none
+pub accepted : (a : Result Gains Refusal) → Answered 127 127 127 a → gains_number a ≡ none
 accepted a h = h.0
 
-pub refused : (a : GainsAnswer) → Answered 0 0 128 a → gains_number a ≡ some 24
+pub refused : (a : Result Gains Refusal) → Answered 0 0 128 a → gains_number a ≡ some 24
 refused a h = h.0
 
-pub refused-silent : (a : GainsAnswer) → Answered 0 0 128 a
+pub refused-silent : (a : Result Gains Refusal) → Answered 0 0 128 a
     → gains_in a ≡ record { left = fin false 0 (pos 0); right = fin false 0 (pos 0) }
 unfolding of_bits
 refused-silent a h = h.1
 
 -- a channel is answered by its own expression, volume and pan
-pub of_a_channel : (c : Channel) (a : GainsAnswer) → AnsweredOf c a → Answered c.expression c.volume c.pan a
+pub of_a_channel : (c : Channel) (a : Result Gains Refusal) → AnsweredOf c a → Answered c.expression c.volume c.pan a
 of_a_channel c a h = h
 
 -- ---- the laws of a table, of any table

@@ -1,14 +1,15 @@
 -- The gains left and right of a channel (section 12 of docs/RULES.md), by its expression, volume and pan.
 -- Assumes nothing.
 use Rattle.std.specs.Prelude.{ℕ, suc, ◌+◌, ◌-◌, ◌*◌, ◌≤◌, ◌<◌, ◌≡◌, Bool, true, false, ◌||◌, ltb, if◌then◌else◌}
-use Rattle.std.specs.Prelude.{List, [], ◌∷◌, get_or, Float}
+use Rattle.std.specs.Prelude.{List, [], ◌∷◌, get_or, Float, Result, Ok, Err}
 use Rattle.std.proofs.Math.Option.{Option, some, none}
 use Rattle.std.specs.Float.{binary32}
 use Rattle.std.specs.Float.Ieee.{of_bits}
+use Rattle.refusals.specs.declared.Refusal.{Refusal}
+use Rattle.refusals.specs.declared.Refusal.TheVariants as refusal
+use Rattle.refusals.specs.Refusals.{number}
 use Rattle.channels.specs.declared.Channel.{Channel}
 use Rattle.gains.specs.declared.Gains.{Gains}
-use Rattle.gains.specs.declared.GainsAnswer.{GainsAnswer}
-use Rattle.gains.specs.declared.GainsAnswer.TheVariants.{GainsAre, OutOfRange}
 use Rattle.gains.specs.Within.{Within, AtMost1, Is0}
 
 -- R12.4: the 127 weights, each nearest to its sine. No proof speaks of a sine, so that a test program compares them
@@ -58,7 +59,7 @@ abbrev pub is_out : ℕ → ℕ → ℕ → Bool
 is_out e v p = ltb 127 e || (ltb 127 v || ltb 127 p)
 
 abbrev pub number_for : ℕ → ℕ → ℕ → Option ℕ
-number_for e v p = if is_out e v p then some 24 else none
+number_for e v p = if is_out e v p then some (number refusal.GainsOutOfRange) else none
 
 -- R12.9: what a refused call gives
 abbrev pub silent : Gains
@@ -70,19 +71,19 @@ Gives true e v p g = g ≡ silent
 Gives false e v p g = Near e v (weight (126 - panned p)) g.left × Near e v (weight (panned p)) g.right
 
 -- R8.24: the number of the answer, and its gains
-abbrev pub gains_number : GainsAnswer → Option ℕ
-gains_number (GainsAre g) = none
-gains_number OutOfRange = some 24
+abbrev pub gains_number : Result Gains Refusal → Option ℕ
+gains_number (Ok g) = none
+gains_number (Err r) = some (number r)
 
-abbrev pub gains_in : GainsAnswer → Gains
-gains_in (GainsAre g) = g
-gains_in OutOfRange = silent
+abbrev pub gains_in : Result Gains Refusal → Gains
+gains_in (Ok g) = g
+gains_in (Err r) = silent
 
 -- what a call answers: its number under its condition and under no other, and its gains. Which float it is, among those
 -- near enough, is left free
-abbrev pub Answered : ℕ → ℕ → ℕ → GainsAnswer → Type 0
+abbrev pub Answered : ℕ → ℕ → ℕ → Result Gains Refusal → Type 0
 Answered e v p a = (gains_number a ≡ number_for e v p) × Gives (is_out e v p) e v p (gains_in a)
 
 -- R12.10: the same, by the numbers of a channel in the record
-abbrev pub AnsweredOf : Channel → GainsAnswer → Type 0
+abbrev pub AnsweredOf : Channel → Result Gains Refusal → Type 0
 AnsweredOf c a = Answered c.expression c.volume c.pan a

@@ -7,20 +7,13 @@ ghost use Rattle.std.specs.Prelude.{◌≡◌, ◌≤◌, ◌<◌, ◌+◌, ◌-
 ghost use Rattle.gains.specs.Gains.{weight, panned, Near, Answered, AnsweredOf};
 
 use channels::Channel;
+use refusals::Refusal;
 
 // What the mixer multiplies a channel by, 0 to 1.
 #[derive(Clone, Copy)]
 pub struct Gains {
     pub left: f32,
     pub right: f32,
-}
-
-#[derive(Clone, Copy)]
-pub enum GainsAnswer {
-    // The gains of the channel.
-    GainsAre(Gains),
-    // Number 24.
-    OutOfRange,
 }
 
 // The weights: 32768 times the sine of a quarter circle in 126 steps, to the nearest whole number. Sixteen a row, since
@@ -96,7 +89,7 @@ fn place_of(pan: u8) -> u8
     requires { pan < 128 }
     ensures { (result ≡ panned pan) × (result < 127) }
 {
-    if pan == 0 { 0 } else { pan - 1 }
+    pan.saturating_sub(1)
 }
 
 // (e / 127) squared, times (v / 127) squared, times w / 32768. 16129 is 127 squared.
@@ -123,24 +116,17 @@ fn gains_at(e: u8, v: u8, p: u8) -> Gains
 }
 
 // The gains of a channel with this expression, volume and pan, each 0 to 127.
-pub fn gains_of(expression: u8, volume: u8, pan: u8) -> GainsAnswer
+pub fn gains_of(expression: u8, volume: u8, pan: u8) -> Result<Gains, Refusal>
     ensures { Answered expression volume pan result }
 {
-    if 127 < expression {
-        return GainsAnswer::OutOfRange;
+    if 127 < expression || 127 < volume || 127 < pan {
+        return Err(Refusal::GainsOutOfRange);
     }
-    if 127 < volume {
-        return GainsAnswer::OutOfRange;
-    }
-    if 127 < pan {
-        return GainsAnswer::OutOfRange;
-    }
-    let p = place_of(pan);
-    GainsAnswer::GainsAre(gains_at(expression, volume, p))
+    Ok(gains_at(expression, volume, place_of(pan)))
 }
 
 // The gains of a channel by its numbers in the record.
-pub fn channel_gains(c: Channel) -> GainsAnswer
+pub fn channel_gains(c: Channel) -> Result<Gains, Refusal>
     ensures { AnsweredOf c result }
 {
     gains_of(c.expression, c.volume, c.pan)
