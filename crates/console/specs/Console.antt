@@ -1,18 +1,15 @@
 -- What a read or a write may answer. Of the bytes that came or went no contract of the C library says anything.
-use Rattle.std.specs.Prelude.{ℕ, ◌<◌, List}
+use Rattle.std.specs.Prelude.{ℕ, ◌<◌, List, Result, Ok, Err}
 use Rattle.io.specs.Counts.{IsPrefixLen}
-use Rattle.console.specs.declared.Input.{Input}
-use Rattle.console.specs.declared.Input.TheVariants.{Bytes, End, Unreadable}
-use Rattle.console.specs.declared.Output.{Output}
-use Rattle.console.specs.declared.Output.TheVariants.{Whole, Cut}
+use Rattle.console.specs.declared.Unreadable.{Unreadable}
+use Rattle.console.specs.declared.Cut.{Cut}
 
--- a read into this buffer: bytes that came are at its start, one at least and no more than it has
-abbrev pub Reads : List ℕ → Input → Type 0
-Reads buffer (Bytes n) = (0 < n) × IsPrefixLen n buffer
-Reads buffer End = Unit {0}
-Reads buffer Unreadable = Unit {0}
+-- a read into this buffer: bytes that came are at its start, no more than it has, and none at the input's end
+abbrev pub Reads : List ℕ → Result ℕ Unreadable → Type 0
+Reads buffer (Ok n) = IsPrefixLen n buffer
+Reads buffer (Err e) = Unit {0}
 
 -- a write of so many bytes: one that was cut took fewer
-abbrev pub Writes : ℕ → Output → Type 0
-Writes size Whole = Unit {0}
-Writes size (Cut n) = n < size
+abbrev pub Writes : ℕ → Result Unit Cut → Type 0
+Writes size (Ok u) = Unit {0}
+Writes size (Err c) = c.taken < size

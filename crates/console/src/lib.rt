@@ -4,8 +4,7 @@
 // is an error.
 #![tactic(auto)]
 
-ghost use Rattle.std.specs.Prelude.{◌≡◌, length, ◌+◌, ◌≤◌, min};
-ghost use Rattle.io.specs.Counts.{IsPrefixLen};
+ghost use Rattle.std.specs.Prelude.{◌≡◌, length, ◌≤◌, min};
 ghost use Rattle.console.specs.Console.{Reads, Writes};
 
 use std::io::{Read, Write};
@@ -14,98 +13,75 @@ use std::io::{Read, Write};
 // a row; an input that has no byte yet and does not wait for one (O_NONBLOCK) is an error that is said.
 const TRIES: u32 = 100;
 
+// Standard input can't be read.
 #[derive(Clone, Copy)]
-pub enum Input {
-    // So many bytes came, one at least, and stand at the buffer's start.
-    Bytes(usize),
-    // The input is at its end.
-    End,
-    // It can't be read.
-    Unreadable,
-}
+pub struct Unreadable;
 
+// A page that was not taken whole: so many of its first bytes were, and no more are.
 #[derive(Clone, Copy)]
-pub enum Output {
-    // All was taken.
-    Whole,
-    // So many of the first bytes were taken, and no more are.
-    Cut(usize),
+pub struct Cut {
+    pub taken: usize,
 }
 
-fn input_of(n: usize, buffer: &[u8]) -> Input
-    requires { IsPrefixLen n buffer.now }
-    ensures { Reads buffer.now result }
-{
-    if n == 0 {
-        return Input::End;
-    }
-    Input::Bytes(n)
-}
-
-// Waits for bytes on standard input, and takes those that are there, as far as the buffer has room.
-pub fn read(rt: &HostRuntime, buffer: &mut [u8]) -> Input
+// Waits for bytes on standard input, and takes those that are there, as far as the buffer has room: so many came and
+// stand at the buffer's start, or none at the input's end.
+pub fn read(rt: &HostRuntime, buffer: &mut [u8]) -> Result<usize, Unreadable>
     ensures { Reads buffer.new result }
 {
     let mut input = rt.stdin();
-    let mut tries = TRIES;
-    while 0 < tries {
+    for _ in 0..TRIES {
         if let Ok(n) = input.read(buffer) {
-            return input_of(n, buffer);
+            return Ok(n);
         }
-        tries -= 1;
     }
-    Input::Unreadable
+    Err(Unreadable)
 }
 
-// One write of what the page has from one place to another, and how many bytes of it were taken.
-fn write_part<W: Write>(output: &mut W, page: &[u8], from: usize, to: usize) -> usize
-    requires { (from ≤ to) × (to ≤ length page.now) }
-    ensures { from + result ≤ to }
+// How many bytes a write took of these: one at least, or none if no call took any.
+fn write_some<W: Write>(output: &mut W, bytes: &[u8]) -> usize
+    ensures { result ≤ length bytes.now }
 {
-    let part = &page[from..to];
-    match output.write(part) {
-        Ok(taken) => taken,
-        Err(_) => 0,
+    for _ in 0..TRIES {
+        if let Ok(taken) = output.write(bytes) {
+            if 0 < taken {
+                return taken;
+            }
+        }
     }
+    0
 }
 
-fn write_to<W: Write>(output: &mut W, page: &[u8], to: usize) -> Output
-    requires { to ≤ length page.now }
-    ensures { Writes to result }
+fn write_all<W: Write>(output: &mut W, bytes: &[u8]) -> Result<(), Cut>
+    ensures { Writes (length bytes.now) result }
 {
     let mut from = 0;
-    let mut tries = TRIES;
-    while from < to {
-        if tries == 0 {
-            return Output::Cut(from);
+    while from < bytes.len() {
+        let taken = write_some(output, &bytes[from..]);
+        if taken == 0 {
+            return Err(Cut { taken: from });
         }
-        let taken = write_part(output, page, from, to);
         from += taken;
-        tries = if taken == 0 { tries - 1 } else { TRIES };
     }
-    Output::Whole
+    Ok(())
 }
 
 // Writes the first `used` bytes of the page, or all of it if that is more than it has. What reaches the other end no
 // contract can say.
-fn write_first<W: Write>(output: &mut W, page: &[u8], used: usize) -> Output
+fn write_first<W: Write>(output: &mut W, page: &[u8], used: usize) -> Result<(), Cut>
     ensures { Writes (min used (length page.now)) result }
 {
-    if used <= page.len() {
-        return write_to(output, page, used);
-    }
-    write_to(output, page, page.len())
+    write_all(output, page.get(..used).unwrap_or(page))
 }
 
 // That to standard output.
-pub fn write(rt: &HostRuntime, page: &[u8], used: usize) -> Output
+pub fn write(rt: &HostRuntime, page: &[u8], used: usize) -> Result<(), Cut>
     ensures { Writes (min used (length page.now)) result }
 {
     write_first(&mut rt.stdout(), page, used)
 }
 
 // That to standard error.
-pub fn write_error(rt: &HostRuntime, page: &[u8], used: usize) -> Output
+pub fn write_error(rt: &HostRuntime, page: &[u8], used: usize) -> Result<(), Cut>
     ensures { Writes (min used (length page.now)) result }
 {
     write_first(&mut rt.stderr(), page, used)
@@ -115,6 +91,6 @@ pub fn write_error(rt: &HostRuntime, page: &[u8], used: usize) -> Output
 pub fn fail(rt: &HostRuntime, line: &[u8]) -> u32
     ensures { result ≡ 1 }
 {
-    write_to(&mut rt.stderr(), line, line.len());
+    let _ = write_all(&mut rt.stderr(), line);
     1
 }
