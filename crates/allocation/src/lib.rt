@@ -5,14 +5,15 @@
 ghost use Rattle.std.specs.Prelude.{◌≡◌};
 ghost use Rattle.allocation.specs.Allocation.{cleared, choice, note_on};
 
-use candidates::{Found, Want};
+use candidates::Want;
 use generators::Generators;
+use refusals::Refusal;
 use releases::Change;
 use silence::Leaving;
 use table::Table;
 
 // What the generator of a new note was.
-#[derive(Clone, Copy)]
+#[derive(Clone, Copy, PartialEq, Eq)]
 pub enum Was {
     // It was idle.
     Idle,
@@ -22,22 +23,22 @@ pub enum Was {
     Stolen,
 }
 
-// What a note-on gets.
+// The generator that a note-on gets.
 #[derive(Clone, Copy)]
-pub enum Taken {
-    // This generator.
-    Took(u8, Was),
-    // None, with its number: 10 or 11.
-    Refused(u8),
+pub struct Taken {
+    pub generator: u8,
+    pub was: Was,
 }
 
 #[derive(Clone, Copy)]
 pub struct Allocated {
-    pub taken: Taken,
+    // Masked or NothingToSteal where it gets none.
+    pub taken: Result<Taken, Refusal>,
     pub generators: Generators,
 }
 
 // Steps 2 and 3: the key's earlier note is released and, on a rhythm channel, other drums of its group fall silent.
+#[tactic(auto, unfolding(crate::specs::Allocation::cleared))]
 fn clear(generators: Generators, rhythm: bool, channel: u8, key: u8) -> Generators
     ensures { result ≡ cleared rhythm channel key generators }
 {
@@ -49,22 +50,37 @@ fn clear(generators: Generators, rhythm: bool, channel: u8, key: u8) -> Generato
 }
 
 // Steps 4 and 5: idle before releasing before stolen.
-fn choose(generators: Generators, table: Table, polyphony: u8, channel: u8) -> Taken
+#[tactic(auto, unfolding(crate::specs::Allocation::choice))]
+fn choose(
+    generators: Generators,
+    table: Table,
+    polyphony: u8,
+    channel: u8,
+) -> Result<Taken, Refusal>
     ensures { result ≡ choice generators table polyphony channel }
 {
-    if let Found::At(g) = candidates::lowest_idle(generators, polyphony) {
-        return Taken::Took(g, Was::Idle);
+    if let Some(generator) = candidates::lowest_idle(generators, polyphony) {
+        return Ok(Taken {
+            generator,
+            was: Was::Idle,
+        });
     }
-    if let Found::At(g) = candidates::oldest(generators, Want::Releasing) {
-        return Taken::Took(g, Was::Release);
+    if let Some(generator) = candidates::oldest(generators, Want::Releasing) {
+        return Ok(Taken {
+            generator,
+            was: Was::Release,
+        });
     }
-    if let Found::At(g) = stealing::victim(generators, table, polyphony, channel) {
-        return Taken::Took(g, Was::Stolen);
-    }
-    Taken::Refused(11)
+    let victim = stealing::victim(generators, table, polyphony, channel);
+    let generator = victim.ok_or(Refusal::NothingToSteal)?;
+    Ok(Taken {
+        generator,
+        was: Was::Stolen,
+    })
 }
 
 // A note-on with a velocity above 0: the generators after it, and which one it took.
+#[tactic(auto, unfolding(crate::specs::Allocation::note_on))]
 pub fn note_on(
     generators: Generators,
     table: Table,
@@ -77,20 +93,17 @@ pub fn note_on(
 {
     if shares::masks(table, polyphony, channel) {
         return Allocated {
-            taken: Taken::Refused(10),
-            generators: generators,
+            taken: Err(Refusal::Masked),
+            generators,
         };
     }
     let rest = clear(generators, rhythm, channel, key);
     let taken = choose(rest, table, polyphony, channel);
-    let Taken::Took(g, _) = taken else {
-        return Allocated {
-            taken: taken,
-            generators: generators,
-        };
+    let Ok(new) = taken else {
+        return Allocated { taken, generators };
     };
     Allocated {
-        taken: taken,
-        generators: rest.assign(g, channel, key),
+        taken,
+        generators: rest.assign(new.generator, channel, key),
     }
 }
