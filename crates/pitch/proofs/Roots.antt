@@ -2,15 +2,15 @@
 -- in one sweep. Whatever is asked of an entry is then read off the test at its place; no power is computed again.
 -- Assumes nothing.
 use Rattle.std.specs.Prelude.{if◌then◌else◌}
-use mathlib.Core.Path.{◌≡◌, refl, sym, ap, ◌∙◌, subst}
+use mathlib.Core.Path.{◌≡◌, refl, sym, subst}
 use mathlib.Core.Bool.{Bool, true, false}
 use mathlib.Core.List.{List, [], ◌∷◌}
-use Prim.Native.Nat.{ℕ, zero, suc, ◌+◌, ◌*◌, ◌/◌, ◌%◌, ◌^◌, ◌≤◌, ◌<◌}
+use Prim.Native.Nat.{ℕ, zero, suc, ◌+◌, ◌*◌, ◌^◌, ◌≤◌, ◌<◌}
 use native.Mathlib.Nat.{le_trans, le_of_eq, lt_irrefl, lt_of_lt_of_le, pow-le-pow_left}
 use native.Mathlib.Nat.{one-le-pow, pow-suc, mul-le-mul_right, one-mul}
 use native.Mathlib.Omega.{arith}
-use lib.Dec.{T, eqb, leb, ltb, leb→le, ltb→lt, eqb→eq}
-use lib.ListN.{get_or, take, drop}
+use lib.Dec.{T, eqb, leb, ltb, leb→le, ltb→lt}
+use lib.ListN.{get_or}
 use borrow.Author.Tests.{ltb-true, ltb-false, lt-ltb, le-leb, lt-leb, eqb-true, eqb-false}
 use Rattle.loops.proofs.Sweep.{at, both, both_left, both_right}
 use Rattle.pitch.specs.Pitch.{largest, entry}
@@ -61,26 +61,18 @@ within? n = both (leb 65536 n) (ltb n 131072)
 rises? : ℕ → ℕ → Bool
 rises? i n = both (within? n) (ltb n (if ltb i 191 then get_or roots (suc i) 0 else 131072))
 
--- the eight of half a semitone, and an entry among them
-abbrev pub row : ℕ → List ℕ
-row s = take 8 (drop (8 * s) roots)
-
-placed? : ℕ → ℕ → Bool
-placed? i n = eqb n (get_or (row (i / 8)) (i % 8) 0)
-
 right : ℕ → ℕ → Bool
-right i n = both (both (both (low? i n) (high? i n)) (rises? i n)) (placed? i n)
+right i n = both (both (low? i n) (high? i n)) (rises? i n)
 
 swept : (i : ℕ) → i < 192 → T (right i (get_or roots i 0))
-unfolding right low? high? rises? within? placed?
+unfolding right low? high? rises? within?
 swept i h = at right roots tt i h
 
 pub root_at : (i : ℕ) → i < 192 → Root i (get_or roots i 0)
 unfolding right low? high?
 root_at i h =
     let n = get_or roots i 0 in
-    let t = both_left (both (low? i n) (high? i n)) (rises? i n)
-    (both_left (both (both (low? i n) (high? i n)) (rises? i n)) (placed? i n) (swept i h)) in
+    let t = both_left (both (low? i n) (high? i n)) (rises? i n) (swept i h) in
     record {
       low = leb→le _ _ (both_left (low? i n) (high? i n) t);
       high = ltb→lt _ _ (both_right (low? i n) (high? i n) t);
@@ -90,8 +82,7 @@ risen : (i : ℕ) → i < 192 → T (rises? i (get_or roots i 0))
 unfolding right
 risen i h =
     let n = get_or roots i 0 in
-    both_right (both (low? i n) (high? i n)) (rises? i n)
-    (both_left (both (both (low? i n) (high? i n)) (rises? i n)) (placed? i n) (swept i h))
+    both_right (both (low? i n) (high? i n)) (rises? i n) (swept i h)
 
 pub rises : (i : ℕ) → i < 191 → get_or roots i 0 < get_or roots (suc i) 0
 unfolding rises?
@@ -160,11 +151,3 @@ largest-entry i h = rw (entry_at i h) ((root_at i h).low, λ n l. go n (ltb (get
     go n true e l =
         let k : get_or roots i 0 + 1 ≤ n = omega (arith, ltb-true (get_or roots i 0) n e) in
         absurd (lt_irrefl _ (lt_of_lt_of_le (root_at i h).high (le_trans (pow-le-pow_left k 192) l)))
-
--- an entry, by its row
-pub entry_in : (i s : ℕ) → i < 192 → i / 8 ≡ s → entry i ≡ get_or (row s) (i % 8) 0
-unfolding right placed?
-entry_in i s h e =
-    let n = get_or roots i 0 in
-    let p = both_right (both (both (low? i n) (high? i n)) (rises? i n)) (placed? i n) (swept i h) in
-    entry_at i h ∙ eqb→eq _ _ p ∙ ap (λ (x : ℕ). get_or (row x) (i % 8) 0) e
