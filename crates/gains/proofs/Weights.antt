@@ -1,20 +1,15 @@
 -- The laws of the table of weights: one test of each weight and its place, computed in one sweep over the 127 numbers.
--- The code has them in rows of sixteen, so that the test asks for the row too.
 -- Assumes nothing.
 use Rattle.std.specs.Prelude.{if◌then◌else◌}
-use mathlib.Core.Path.{◌≡◌, refl, sym, ap, ◌∙◌}
+use mathlib.Core.Path.{◌≡◌, refl}
 use mathlib.Core.Bool.{Bool}
-use mathlib.Core.List.{List}
-use Prim.Native.Nat.{ℕ, suc, ◌+◌, ◌-◌, ◌*◌, ◌/◌, ◌%◌, ◌≤◌, ◌<◌}
+use Prim.Native.Nat.{ℕ, suc, ◌+◌, ◌-◌, ◌*◌, ◌≤◌, ◌<◌}
 use native.Mathlib.Omega.{arith}
-use lib.Dec.{T, eqb, leb, ltb, eqb→eq, leb→le, ltb→lt}
-use lib.ListN.{length, get_or, take, drop}
+use lib.Dec.{T, leb, ltb, leb→le, ltb→lt}
+use lib.ListN.{length, get_or}
 use borrow.Author.Tests.{lt-ltb}
 use Rattle.loops.proofs.Sweep.{at, both, both_left, both_right}
 use Rattle.gains.specs.Gains.{weights, weight, Weighs}
-
-abbrev pub row : ℕ → List ℕ
-row s = take 16 (drop (16 * s) weights)
 
 abbrev squares : ℕ → ℕ → ℕ
 squares p w = w * w + get_or weights (126 - p) 0 * get_or weights (126 - p) 0
@@ -29,46 +24,28 @@ rises? p w = both (ltb w (next p)) (leb w 32768)
 near? : ℕ → ℕ → Bool
 near? p w = both (leb (squares p w) (1073741824 + 46342)) (leb 1073741824 (squares p w + 46342))
 
-placed? : ℕ → ℕ → Bool
-placed? p w = eqb w (get_or (row (p / 16)) (p % 16) 0)
-
 right : ℕ → ℕ → Bool
-right p w = both (both (rises? p w) (near? p w)) (placed? p w)
+right p w = both (rises? p w) (near? p w)
 
 swept : (p : ℕ) → p < 127 → T (right p (get_or weights p 0))
-unfolding right rises? near? placed?
+unfolding right rises? near?
 swept p h = at right weights tt p h
 
 risen : (p : ℕ) → p < 127 → T (rises? p (get_or weights p 0))
 unfolding right
 risen p h =
     let w = get_or weights p 0 in
-    both_left (rises? p w) (near? p w) (both_left (both (rises? p w) (near? p w)) (placed? p w) (swept p h))
+    both_left (rises? p w) (near? p w) (swept p h)
 
 nearby : (p : ℕ) → p < 127 → T (near? p (get_or weights p 0))
 unfolding right
 nearby p h =
     let w = get_or weights p 0 in
-    both_right (rises? p w) (near? p w) (both_left (both (rises? p w) (near? p w)) (placed? p w) (swept p h))
+    both_right (rises? p w) (near? p w) (swept p h)
 
 pub at_most_lem : (p : ℕ) → p < 127 → weight p ≤ 32768
 unfolding weight rises?
 at_most_lem p h = let w = get_or weights p 0 in leb→le w 32768 (both_right (ltb w (next p)) (leb w 32768) (risen p h))
-
-placed : (p : ℕ) → p < 127 → get_or weights p 0 ≡ get_or (row (p / 16)) (p % 16) 0
-unfolding right placed?
-placed p h =
-    let w = get_or weights p 0 in
-    eqb→eq _ _ (both_right (both (rises? p w) (near? p w)) (placed? p w) (swept p h))
-
--- a weight, by its row
-pub in_row : (s j : ℕ) → j < 16 → 16 * s + j < 127 → get_or (row s) j 0 ≡ weight (16 * s + j)
-unfolding weight
-in_row s j l h =
-    let quotient : (16 * s + j) / 16 ≡ s = omega (arith, l) in
-    let rest : (16 * s + j) % 16 ≡ j = omega (arith, l) in
-    sym (placed (16 * s + j) h ∙ ap (λ (x : ℕ). get_or (row x) ((16 * s + j) % 16) 0) quotient
-    ∙ ap (λ (x : ℕ). get_or (row s) x 0) rest)
 
 below_next : (p : ℕ) → p < 126 → weight p < weight (suc p)
 unfolding weight rises?
