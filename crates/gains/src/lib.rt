@@ -4,7 +4,7 @@
 #![tactic(auto)]
 
 ghost use Rattle.std.specs.Prelude.{◌≡◌, ◌≤◌, ◌<◌, ◌+◌, ◌-◌, ◌*◌};
-ghost use Rattle.gains.specs.Gains.{weight, panned, Near, Answered, AnsweredOf};
+ghost use Rattle.gains.specs.Gains.{weight, panned, Near, is_out, Answered, AnsweredOf};
 
 use channels::Channel;
 use refusals::Refusal;
@@ -69,11 +69,18 @@ fn gains_at(e: u8, v: u8, p: u8) -> Gains
     }
 }
 
+// Whether one of the three is above 127.
+fn is_out(expression: u8, volume: u8, pan: u8) -> bool
+    ensures { result ≡ is_out expression volume pan }
+{
+    127 < expression || 127 < volume || 127 < pan
+}
+
 // The gains of a channel with this expression, volume and pan, each 0 to 127.
 pub fn gains_of(expression: u8, volume: u8, pan: u8) -> Result<Gains, Refusal>
     ensures { Answered expression volume pan result }
 {
-    if 127 < expression || 127 < volume || 127 < pan {
+    if is_out(expression, volume, pan) {
         return Err(Refusal::GainsOutOfRange);
     }
     Ok(gains_at(expression, volume, place_of(pan)))

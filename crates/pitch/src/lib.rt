@@ -5,7 +5,7 @@
 
 ghost use Rattle.std.specs.Prelude.{◌≡◌, ◌<◌, ◌/◌, ◌%◌};
 ghost use Rattle.std.proofs.Math.IntN.{sub_ℕ};
-ghost use Rattle.pitch.specs.Pitch.{position, entry, pitch_of};
+ghost use Rattle.pitch.specs.Pitch.{position, entry, is_out, pitch_of};
 
 use refusals::Refusal;
 
@@ -61,11 +61,18 @@ fn octave(n: u32) -> i8
     (n / 192) as i8 - 2
 }
 
+// Whether MIDI does not have the key, the sensitivity or the bend.
+fn is_out(key: u8, sensitivity: u8, bend: u16) -> bool
+    ensures { result ≡ is_out key sensitivity bend }
+{
+    127 < key || 24 < sensitivity || 16383 < bend
+}
+
 // The pitch of a key, with the sensitivity (0 to 24 semitones) and the bend (0 to 16383, centre 8192) of its channel.
 pub fn pitch_of(key: u8, sensitivity: u8, bend: u16) -> Result<Pitch, Refusal>
     ensures { result ≡ pitch_of key sensitivity bend }
 {
-    if 127 < key || 24 < sensitivity || 16383 < bend {
+    if is_out(key, sensitivity, bend) {
         return Err(Refusal::PitchOutOfRange);
     }
     let n = raised(key, sensitivity, bend);

@@ -1,16 +1,14 @@
--- `gains::gains_of` meets its contract: the three tests one after the other, then the gains at the place of the pan.
+-- `gains::gains_of` meets its contract: the test of the three, then the gains at the place of the pan.
 -- Assumes nothing.
 use Rattle.std.specs.Prelude.{if◌then◌else◌, Ok, Err}
-use mathlib.Core.Path.{◌≡◌, refl, sym, subst}
+use mathlib.Core.Path.{◌≡◌, refl, sym, subst, ◌∙◌}
 use mathlib.Core.Bool.{Bool, true, false}
 use mathlib.Core.Option.{Option, some, none}
 use Prim.Native.Nat.{ℕ, ◌-◌}
-use borrow.Author.Tests.{lt-ltb, le-ltb}
 use Rattle.gains.specs.declared.Gains.{Gains}
 use Rattle.refusals.specs.declared.Refusal.TheVariants as refusal
 use Rattle.gains.specs.Gains.{weight, panned, Near, is_out, silent, Gives, Answered}
 use Rattle.gains.proofs.gains_of.Goals as goal
-use Rattle.gains.proofs.gains_of.Goals.{then-expression-gt127-via-then-expression-gt127, then-expression-gt127-via-else-expression-gt127+then-volume-gt127, then-expression-gt127-via-else-expression-gt127+else-volume-gt127+then-pan-gt127}
 
 -- what is answered, by what the tests said
 abbrev Told : ℕ → ℕ → ℕ → Option ℕ → Gains → Bool → Type 0
@@ -30,29 +28,11 @@ given e v p q g h s left right =
       ),
     )
 
-pub returns-then-expression-gt127 : goal.returns-then-expression-gt127
-returns-then-expression-gt127 c =
-    let a = c.args in
-    refused a.expression a.volume a.pan
-    (elim c.then-expression-gt127.branch [
-      | then-expression-gt127-via-then-expression-gt127 w ↦ simp (lt-ltb _ _ w.if-expression-gt127.true)
-      | then-expression-gt127-via-else-expression-gt127+then-volume-gt127 w ↦
-          simp (le-ltb _ _ w.if-expression-gt127.false, lt-ltb _ _ w.if-volume-gt127.true)
-      | then-expression-gt127-via-else-expression-gt127+else-volume-gt127+then-pan-gt127 w ↦
-          simp (
-            le-ltb _ _ w.if-expression-gt127.false,
-            le-ltb _ _ w.if-volume-gt127.false,
-            lt-ltb _ _ w.if-pan-gt127.true,
-          )
-    ])
+pub returns-then-is_out : goal.returns-then-is_out
+returns-then-is_out c =
+    refused c.args.expression c.args.volume c.args.pan (sym c.is_out.ensures ∙ c.if-is_out.true)
 
 pub returns : goal.returns
 returns c =
-    let a = c.args in
-    given a.expression a.volume a.pan c.place_of.result c.gains_at.result
-    (simp (
-      le-ltb _ _ c.if-expression-gt127.false,
-      le-ltb _ _ c.if-volume-gt127.false,
-      le-ltb _ _ c.if-pan-gt127.false,
-    ))
-    c.place_of.ensures.0 c.gains_at.ensures.0 c.gains_at.ensures.1
+    given c.args.expression c.args.volume c.args.pan c.place_of.result c.gains_at.result
+    (sym c.is_out.ensures ∙ c.if-is_out.false) c.place_of.ensures.0 c.gains_at.ensures.0 c.gains_at.ensures.1

@@ -1,8 +1,8 @@
--- `pitch::pitch_of` meets its contract: the three tests one after the other, then octave and remainder of the raised
+-- `pitch::pitch_of` meets its contract: the test of the three, then octave and remainder of the raised
 -- position (`Floor`).
 -- Assumes nothing.
 use Rattle.std.specs.Prelude.{Result, Ok}
-use mathlib.Core.Path.{◌≡◌, refl}
+use mathlib.Core.Path.{◌≡◌, refl, sym, ◌∙◌}
 use mathlib.Core.Bool.{Bool, true, false, cond}
 use Prim.Native.Nat.{ℕ, suc, ◌-◌, ◌/◌, ◌%◌, ◌^◌, ◌<◌}
 use native.Mathlib.Omega.{arith}
@@ -12,13 +12,11 @@ use lib.Signed.{mag}
 use mir.Syntax.{w8}
 use mir.Val.{to_z, of_z}
 use mir.Facts.{to_z-of_z}
-use borrow.Author.Tests.{lt-ltb, le-ltb}
 use Rattle.refusals.specs.declared.Refusal.{Refusal}
 use Rattle.pitch.specs.declared.Pitch.{Pitch}
 use Rattle.pitch.specs.Pitch.{entry, pitch_of, pitch_at}
 use Rattle.pitch.proofs.Floor.{octave_of, rest_of}
 use Rattle.pitch.proofs.pitch_of.Goals as goal
-use Rattle.pitch.proofs.pitch_of.Goals.{then-key-gt127-via-then-key-gt127, then-key-gt127-via-else-key-gt127+then-sensitivity-gt24, then-key-gt127-via-else-key-gt127+else-sensitivity-gt24+then-bend-gt16383}
 
 -- an octave is read back from its byte
 read_back : (n : ℕ) → n < 2880 → to_z w8 (of_z w8 (sub_ℕ (n / 192) 2)) ≡ sub_ℕ (n / 192) 2
@@ -33,29 +31,14 @@ made : (z : ℤ) (e n : ℕ) (p : ℤ) → n < 2880 → sub_ℕ n 384 ≡ p → 
 unfolding pitch_at
 made z e n p h q o r = rw (← q, octave_of n, rest_of n, o, r, read_back n h)
 
-pub returns-then-key-gt127 : goal.returns-then-key-gt127
+pub returns-then-is_out : goal.returns-then-is_out
 unfolding pitch_of
-returns-then-key-gt127 c =
-    elim c.then-key-gt127.branch [
-      | then-key-gt127-via-then-key-gt127 w ↦ simp (lt-ltb _ _ w.if-key-gt127.true)
-      | then-key-gt127-via-else-key-gt127+then-sensitivity-gt24 w ↦
-          simp (le-ltb _ _ w.if-key-gt127.false, lt-ltb _ _ w.if-sensitivity-gt24.true)
-      | then-key-gt127-via-else-key-gt127+else-sensitivity-gt24+then-bend-gt16383 w ↦
-          simp (
-            le-ltb _ _ w.if-key-gt127.false,
-            le-ltb _ _ w.if-sensitivity-gt24.false,
-            lt-ltb _ _ w.if-bend-gt16383.true,
-          )
-    ]
+returns-then-is_out c = simp (sym c.is_out.ensures ∙ c.if-is_out.true)
 
 pub returns : goal.returns
 unfolding pitch_of
 returns c =
     let n : c.raised-n.result < 2880 = c.raised-n.ensures.1 in
-    simp (
-      le-ltb _ _ c.if-key-gt127.false,
-      le-ltb _ _ c.if-sensitivity-gt24.false,
-      le-ltb _ _ c.if-bend-gt16383.false,
-    )
+    simp (sym c.is_out.ensures ∙ c.if-is_out.false)
     (made c.octave.result c.entry_at.result c.raised-n.result _ n
     c.raised-n.ensures.0 c.octave.ensures c.entry_at.ensures)
