@@ -1,6 +1,7 @@
 -- The loop of `write_song`: at turn i the first i bytes of the song are written and played, and those after them are as
 -- they were.
 -- Assumes nothing.
+use Rattle.std.specs.Prelude.{Ok}
 use mathlib.Core.Path.{◌≡◌, refl, sym, ap, ap₂, ◌∙◌, subst}
 use mathlib.Core.Bool.{false}
 use mathlib.Core.List.{List, [], ◌∷◌, ◌++◌}
@@ -19,7 +20,6 @@ use Rattle.device.specs.declared.Device.{Device}
 use Rattle.device.specs.declared.Output.{Output}
 use Rattle.device.specs.Device.{is_wrong_p, started, byte_taken, after_bytes}
 use Rattle.device.proofs.Bytes.{after_snoc}
-use Rattle.song.specs.declared.SongAnswer.TheVariants.{Thefts}
 use Rattle.song.specs.Song.{is_theft, thefts, song_byte, song, is_too_long, song_answer, song_written}
 use Rattle.song.proofs.Played.{thefts_snoc}
 
@@ -92,11 +92,11 @@ turn_next p n old new d t i k h b e o q x y =
     }
 
 pub turn_last : (p n : ℕ) (old new : List ℕ) (d : Device) (t i : ℕ) → Turn p n old new d t i
-    → n ≤ i → (Thefts t ≡ song_answer p n old) × (new ≡ song_written p n old)
+    → n ≤ i → (Ok t ≡ song_answer p n old) × (new ≡ song_written p n old)
 unfolding song_answer song_written
 turn_last p n old new d t i k h =
     let u = k.until in
     let e : i ≡ n = omega arith in (
-      rw (k.right, k.fits) (ap Thefts (k.counted ∙ ap (λ (m : ℕ). thefts (started p 0).device (song m)) e)),
+      rw (k.right, k.fits) (ap Ok (k.counted ∙ ap (λ (m : ℕ). thefts (started p 0).device (song m)) e)),
       rw (k.right, k.fits) (k.written ∙ ap (λ (m : ℕ). song m ++ drop m old) e),
     )

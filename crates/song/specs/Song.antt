@@ -1,7 +1,10 @@
 -- The hardest song (section 13 of docs/RULES.md): a song of n bytes in a lent buffer, and its thefts. That no song of
 -- n bytes makes more is stated in crate `hardest`.
-use Rattle.std.specs.Prelude.{ℕ, ◌+◌, ◌-◌, ◌/◌, ◌%◌, Bool, false, ◌||◌, List, [], ◌∷◌, ◌++◌, eqb, ltb, length, drop, if◌then◌else◌}
+use Rattle.std.specs.Prelude.{ℕ, ◌+◌, ◌-◌, ◌/◌, ◌%◌, Bool, false, ◌||◌, List, [], ◌∷◌, ◌++◌, eqb, ltb, length, drop, if◌then◌else◌, Result, Ok, Err}
 use Rattle.std.proofs.Math.Option.{Option, some, none}
+use Rattle.refusals.specs.declared.Refusal.{Refusal}
+use Rattle.refusals.specs.declared.Refusal.TheVariants as refusal
+use Rattle.refusals.specs.Refusals.{number}
 use Rattle.loops.specs.Cases.{bit}
 use Rattle.loops.specs.Passes.{up_to}
 use Rattle.allocation.specs.Allocation.{is_stolen}
@@ -9,8 +12,6 @@ use Rattle.playing.specs.declared.Answer.{Answer}
 use Rattle.playing.specs.declared.Answer.TheVariants.{Nothing, Done, Note, NoNote, Number}
 use Rattle.device.specs.declared.Device.{Device}
 use Rattle.device.specs.Device.{is_wrong_p, started, byte_taken}
-use Rattle.song.specs.declared.SongAnswer.{SongAnswer}
-use Rattle.song.specs.declared.SongAnswer.TheVariants.{Thefts, WrongPolyphony, TooLong}
 
 -- ---- thefts
 
@@ -44,11 +45,11 @@ abbrev pub is_too_long : ℕ → ℕ → Bool
 is_too_long n room = ltb 65536 n || ltb room n
 
 -- R13.6: number 1 before 25, R8.1; R13.4: else the thefts on a fresh device of polyphony P, with own ID 0
-unfoldable pub song_answer : ℕ → ℕ → List ℕ → SongAnswer
+unfoldable pub song_answer : ℕ → ℕ → List ℕ → Result ℕ Refusal
 song_answer p n buffer =
-    if is_wrong_p p then WrongPolyphony else
-    if is_too_long n (length buffer) then TooLong else
-    Thefts (thefts (started p 0).device (song n))
+    if is_wrong_p p then Err refusal.WrongPolyphony else
+    if is_too_long n (length buffer) then Err refusal.SongTooLong else
+    Ok (thefts (started p 0).device (song n))
 
 -- R13.3: the buffer after it: the song, and behind it what was there; R13.6: refused, it stays as it was
 unfoldable pub song_written : ℕ → ℕ → List ℕ → List ℕ
@@ -58,13 +59,11 @@ song_written p n buffer =
     song n ++ drop n buffer
 
 -- the number of an answer, where it has one
-abbrev pub song_number : SongAnswer → Option ℕ
-song_number (Thefts t) = none
-song_number WrongPolyphony = some 1
-song_number TooLong = some 25
+abbrev pub song_number : Result ℕ Refusal → Option ℕ
+song_number (Ok t) = none
+song_number (Err r) = some (number r)
 
 -- R13.6: 0 thefts beside a number
-abbrev pub thefts_in : SongAnswer → ℕ
-thefts_in (Thefts t) = t
-thefts_in WrongPolyphony = 0
-thefts_in TooLong = 0
+abbrev pub thefts_in : Result ℕ Refusal → ℕ
+thefts_in (Ok t) = t
+thefts_in (Err r) = 0

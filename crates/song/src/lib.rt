@@ -4,25 +4,13 @@
 #![tactic(auto)]
 
 ghost use Rattle.std.specs.Prelude.{◌≡◌, ◌≤◌};
-ghost use Rattle.loops.specs.Cases.{bit};
-ghost use Rattle.allocation.specs.Allocation.{is_stolen};
 ghost use Rattle.device.specs.Device.{is_wrong_p};
 ghost use Rattle.song.specs.Song.{is_theft, song_byte, is_too_long, song_answer, song_written};
 
 use allocation::Was;
 use device::Device;
 use playing::Answer;
-
-// What `write_song` answers.
-#[derive(Clone, Copy)]
-pub enum SongAnswer {
-    // The song is written; so many of its note-ons stole a generator.
-    Thefts(u32),
-    // Number 1; the buffer is as it was.
-    WrongPolyphony,
-    // Number 25; the buffer is as it was.
-    TooLong,
-}
+use refusals::Refusal;
 
 // The longest song.
 pub const MOST_BYTES: usize = 65536;
@@ -40,65 +28,46 @@ fn song_byte(i: usize) -> u8
     0x40
 }
 
-fn stolen(w: Was) -> u32
-    ensures { (result ≡ bit (is_stolen w)) × (result ≤ 1) }
+// Whether a note-on that stole its generator was so answered.
+fn is_theft(a: Answer) -> bool
+    ensures { result ≡ is_theft a }
 {
-    match w {
-        Was::Idle => 0,
-        Was::Release => 0,
-        Was::Stolen => 1,
-    }
-}
-
-// 1 for the answer of a note-on that stole its generator, else 0.
-fn theft(a: Answer) -> u32
-    ensures { (result ≡ bit (is_theft a)) × (result ≤ 1) }
-{
-    match a {
-        Answer::Nothing => 0,
-        Answer::Done => 0,
-        Answer::Note(_, _, _, w) => stolen(w),
-        Answer::NoNote(_, _, _) => 0,
-        Answer::Number(_) => 0,
-    }
+    matches!(a, Answer::Note(_, _, _, Was::Stolen))
 }
 
 fn is_wrong_polyphony(polyphony: u8) -> bool
     ensures { result ≡ is_wrong_p polyphony }
 {
-    (polyphony < 1) | (Device::MOST_GENERATORS < polyphony)
+    polyphony < 1 || Device::MOST_GENERATORS < polyphony
 }
 
 // Whether a song of n bytes is too long for a buffer of so many.
 fn is_too_long(n: usize, room: usize) -> bool
     ensures { result ≡ is_too_long n room }
 {
-    (MOST_BYTES < n) | (room < n)
+    MOST_BYTES < n || room < n
 }
 
 // Writes the song of n bytes into the buffer's first n bytes, plays each of them on a fresh device of this polyphony,
 // and answers the thefts that the device told.
-pub fn write_song(polyphony: u8, n: usize, song: &mut [u8]) -> SongAnswer
+pub fn write_song(polyphony: u8, n: usize, song: &mut [u8]) -> Result<u32, Refusal>
     ensures { (result ≡ song_answer polyphony n song.old)
         × (song.new ≡ song_written polyphony n song.old) }
 {
     if is_wrong_polyphony(polyphony) {
-        return SongAnswer::WrongPolyphony;
+        return Err(Refusal::WrongPolyphony);
     }
     if is_too_long(n, song.len()) {
-        return SongAnswer::TooLong;
+        return Err(Refusal::SongTooLong);
     }
     let mut d = device::start(polyphony, 0).device;
-    let mut thefts: u32 = 0;
-    let mut i = 0;
-    while i < n {
+    let mut thefts = 0;
+    for i in 0..n {
         let b = song_byte(i);
         song[i] = b;
         let r = device::byte(d, b);
-        let answer = r.answer;
-        thefts += theft(answer);
+        thefts += u32::from(is_theft(r.answer));
         d = r.device;
-        i += 1;
     }
-    SongAnswer::Thefts(thefts)
+    Ok(thefts)
 }

@@ -1,8 +1,8 @@
--- `song::write_song` meets its contract: number 1 before number 25, and a loop whose invariant is `Turn`. The measure
--- is what is left of the song.
+-- `song::write_song` meets its contract: number 1 before number 25, and a loop whose invariant is `Turn`.
 -- Assumes nothing.
-use mathlib.Core.Path.{sym, ◌∙◌}
+use mathlib.Core.Path.{sym, ap, ◌∙◌}
 use native.Mathlib.Omega.{arith}
+use Rattle.loops.specs.Cases.{bit}
 use Rattle.song.specs.Song.{song_answer, song_written}
 use Rattle.song.proofs.Written.{turn_first, turn_next, turn_last}
 use Rattle.song.proofs.write_song.Goals as goal
@@ -28,17 +28,14 @@ loop-i-init c =
 pub bounds-song-i : goal.bounds-song-i
 bounds-song-i c =
     let l = c.loop-i in
-    let t = c.loop-i-test.true in
     let r = l.invariant.room in
     let s = l.invariant.same in
     omega arith
 
 pub loop-i-preserved : goal.loop-i-preserved
 loop-i-preserved c =
-    let l = c.loop-i in
-    turn_next _ _ _ _ _ _ _ l.invariant c.loop-i-test.true _
-    c.song_byte-b.ensures _
-    c.byte-r.ensures _ c.theft-thefts.ensures.0
+    turn_next _ _ _ _ _ _ _ c.loop-i.invariant c.loop-i-test.true _ c.song_byte-b.ensures _ c.byte-r.ensures _
+    (c.from-thefts.ensures ∙ ap bit c.is_theft.ensures)
 
 pub returns : goal.returns
 returns c = turn_last _ _ _ _ _ _ _ c.loop-i.invariant c.loop-i-test.false
