@@ -1,7 +1,7 @@
 -- A loop that makes an array by a rule: at turn i the first i elements are those of the rule, and the others are as
 -- they were.
 -- Assumes nothing.
-use mathlib.Core.Path.{◌≡◌, refl, sym, ap, ◌∙◌}
+use mathlib.Core.Path.{◌≡◌, refl, sym, ap, ◌∙◌, subst}
 use mathlib.Core.Bool.{Bool, true, false}
 use mathlib.Core.List.{List, [], ◌∷◌, ◌++◌, append_assoc, append-nil}
 use Prim.Native.Nat.{ℕ, zero, suc, ◌+◌, ◌≤◌, ◌<◌}
@@ -11,6 +11,11 @@ use borrow.Author.Tests.{eqb-true, eqb-false}
 use lib.Dec.{eqb}
 use lib.ListN.{length, drop, set, get_or, length-append, drop_of_length-le, get_or-append}
 use lib.Seq.{drop-cons, set_at, get_or-append_seam, ext_get_or}
+use denote.Param.Members.{Mut, Called}
+use Rattle.std.specs.Array.{IsFromFnResult, IsFromFnResultFrom}
+use Rattle.std.specs.List.{range_with_len}
+use mathlib.Core.List.{map}
+use Rattle.std.proofs.lemmas.List.FromFn.{map-range_with_len_more}
 use Rattle.loops.specs.Passes.{up_to}
 
 module _ {A : Type 0} (f : ℕ → A) where
@@ -61,3 +66,35 @@ pub up_to-same : {A : Type 0} (f g : ℕ → A) (n : ℕ) → ((i : ℕ) → i <
 unfolding up_to
 up_to-same f g zero h = refl
 up_to-same f g (suc n) h = rw (up_to-same f g n (λ i k. h i (omega arith)), h n (omega arith))
+
+-- the same array in std's words
+pub up_to_range : {A : Type 0} (f : ℕ → A) (n : ℕ) → up_to f n ≡ map f (range_with_len 0 n)
+unfolding up_to
+up_to_range f zero = refl
+up_to_range f (suc n) =
+    ap (λ (l : List _). l ++ (f n ∷ [])) (up_to_range f n)
+    ∙ sym (map-range_with_len_more f 0 n n (omega arith))
+    ∙ ap (λ (k : ℕ). map f (range_with_len 0 k)) (add-one n)
+
+-- what `array::from_fn` makes, of a closure that computes the rule and keeps what it holds
+module _ {F A : Type 0} (g : Mut F (ℕ × Unit {0}) A) (c : F) (f : ℕ → A)
+    (computes : (i : ℕ) (y : A) (q : F) → Called g c (i, tt) y q → (q ≡ c) × (y ≡ f i)) where
+  made-from : (d : A) (out : List A) (n i : ℕ) → IsFromFnResultFrom g c out i n
+      → (j : ℕ) → i ≤ j → j < i + n → get_or out j d ≡ f j
+  made-from d out zero i made j l h = absurd (omega arith)
+  made-from d out (suc n) i (q, y, at, called, rest) j l h =
+      let known = computes i y q called in
+      go (eqb i j) refl known.1
+      (made-from d out n (i + 1) (subst (λ (r : F). IsFromFnResultFrom g r out (i + 1) n) known.0 rest) j)
+    where
+      go : (b : Bool) → eqb i j ≡ b → y ≡ f i → (i + 1 ≤ j → j < i + 1 + n → get_or out j d ≡ f j) → get_or out j d ≡ f j
+      go true e v ih =
+          let k = eqb-true i j e in
+          ap (λ (m : ℕ). get_or out m d) (sym k) ∙ at.1 d ∙ v ∙ ap f k
+      go false e v ih = let s = eqb-false i j e in ih (omega (arith, s)) (omega arith)
+
+  pub made_up_to : (d : A) (out : List A) (n : ℕ) → IsFromFnResult g c out n → out ≡ up_to f n
+  made_up_to d out n made =
+      let e = length-up_to f n in
+      ext_get_or d out (up_to f n) (made.long ∙ sym e)
+      (λ i s. let l = made.long in made-from d out n 0 made.each i (omega arith) (omega arith) ∙ sym (at-up_to f d n i (omega arith)))

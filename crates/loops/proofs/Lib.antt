@@ -8,3 +8,4 @@ pub mod Totals
 pub mod Search
 pub mod Sweep
 pub mod Tests
+pub mod Words
