@@ -77,26 +77,26 @@ impl Channel {
     pub fn fresh_rhythm() -> Self
         ensures { result ≡ fresh_rhythm }
     {
-        let mut c = Channel::fresh();
-        c.bank_msb = Channel::RHYTHM_BANK;
-        c
+        Channel {
+            bank_msb: Channel::RHYTHM_BANK,
+            ..Channel::fresh()
+        }
     }
 
     pub fn program(self, program: u8) -> Self
         ensures { result ≡ with_program self program }
     {
-        let mut c = self;
-        c.program = program;
-        c
+        Channel { program, ..self }
     }
 
     pub fn bend(self, msb: u8, lsb: u8) -> Self
         ensures { result ≡ with_bend self msb lsb }
     {
-        let mut c = self;
-        c.bend_msb = msb;
-        c.bend_lsb = lsb;
-        c
+        Channel {
+            bend_msb: msb,
+            bend_lsb: lsb,
+            ..self
+        }
     }
 
     // Whether a program change makes a rhythm channel of one that was one or not: by its bank's MSB; the LSB and the
@@ -104,12 +104,10 @@ impl Channel {
     pub fn rhythm_by(self, was: bool) -> bool
         ensures { result ≡ rhythm_by self.bank_msb was }
     {
-        if self.bank_msb == Channel::RHYTHM_BANK {
-            return true;
+        match self.bank_msb {
+            Channel::RHYTHM_BANK => true,
+            Channel::MELODY_BANK => false,
+            _ => was,
         }
-        if self.bank_msb == Channel::MELODY_BANK {
-            return false;
-        }
-        was
     }
 }

@@ -5,4 +5,4 @@ use Rattle.channels.proofs.Channel.fresh_rhythm.Goals as goal
 
 pub returns : goal.returns
 unfolding fresh_rhythm
-returns c = simp c.fresh-c.ensures
+returns c = simp c.fresh.ensures

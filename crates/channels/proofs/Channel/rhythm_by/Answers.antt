@@ -1,18 +1,18 @@
--- `channels::Channel::rhythm_by` meets its contract, in the order of its tests.
+-- `channels::Channel::rhythm_by` meets its contract, in the order of its arms.
 -- Assumes nothing.
-use borrow.Author.Tests.{eq-eqb, ne_eqb}
+use native.Mathlib.Omega.{arith}
+use borrow.Author.Tests.{ne_eqb}
 use Rattle.channels.specs.Channel.{rhythm_by}
 use Rattle.channels.proofs.Channel.rhythm_by.Goals as goal
 
-pub returns-then-self-eq-RHYTHM_BANK : goal.returns-then-self-eq-RHYTHM_BANK
+pub returns-in-120 : goal.returns-in-120
 unfolding rhythm_by
-returns-then-self-eq-RHYTHM_BANK c = simp (eq-eqb _ _ c.if-self-eq-RHYTHM_BANK.true)
+returns-in-120 c = simp c.in-120.is
 
-pub returns-then-self-eq-MELODY_BANK : goal.returns-then-self-eq-MELODY_BANK
+pub returns-in-121 : goal.returns-in-121
 unfolding rhythm_by
-returns-then-self-eq-MELODY_BANK c =
-    simp (ne_eqb _ _ c.if-self-eq-RHYTHM_BANK.false, eq-eqb _ _ c.if-self-eq-MELODY_BANK.true)
+returns-in-121 c = simp c.in-121.is
 
-pub returns : goal.returns
+pub returns-in_default : goal.returns-in_default
 unfolding rhythm_by
-returns c = simp (ne_eqb _ _ c.if-self-eq-RHYTHM_BANK.false, ne_eqb _ _ c.if-self-eq-MELODY_BANK.false)
+returns-in_default c = simp (ne_eqb c.args.self.bank_msb 120 (λ e. omega arith), ne_eqb c.args.self.bank_msb 121 (λ e. omega arith))
