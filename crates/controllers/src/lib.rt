@@ -14,10 +14,11 @@ use channels::Channel;
 fn data_entry(channel: Channel, v: u8) -> u8
     ensures { result ≡ data_entry channel v }
 {
-    if (channel.rpn_msb == 0) & (channel.rpn_lsb == 0) {
-        return loops::at_most(Channel::SENSITIVITY_LIMIT, v);
+    if channel.rpn_msb == 0 && channel.rpn_lsb == 0 {
+        v.min(Channel::SENSITIVITY_LIMIT)
+    } else {
+        channel.sensitivity
     }
-    channel.sensitivity
 }
 
 // A non-registered parameter number, 98 or 99, takes the registered one out of use.
@@ -49,39 +50,41 @@ fn store(channel: Channel, n: u8, v: u8) -> Channel
 fn reset(channel: Channel) -> Channel
     ensures { result ≡ reset channel }
 {
-    let mut c = channel;
-    c.modulation = Channel::MODULATION;
-    c.expression = Channel::EXPRESSION;
-    c.hold = Channel::HOLD;
-    c.rpn_msb = Channel::RPN;
-    c.rpn_lsb = Channel::RPN;
-    c.bend_msb = Channel::BEND_MSB;
-    c.bend_lsb = Channel::BEND_LSB;
-    c
+    Channel {
+        modulation: Channel::MODULATION,
+        expression: Channel::EXPRESSION,
+        hold: Channel::HOLD,
+        rpn_msb: Channel::RPN,
+        rpn_lsb: Channel::RPN,
+        bend_msb: Channel::BEND_MSB,
+        bend_lsb: Channel::BEND_LSB,
+        ..channel
+    }
 }
 
 // The channel's numbers after controller n with value v.
 pub fn control(channel: Channel, n: u8, v: u8) -> Channel
     ensures { result ≡ controlled channel n v }
 {
-    if (n == 121) & (v == 0) {
-        return reset(channel);
+    if n == 121 && v == 0 {
+        reset(channel)
+    } else {
+        store(channel, n, v)
     }
-    store(channel, n, v)
 }
 
 // Whether it lifts the pedal: hold, or Reset All Controllers.
 pub fn lifts_pedal(n: u8, v: u8) -> bool
     ensures { result ≡ lifts_pedal n v }
 {
-    ((n == 64) & (v < 64)) | ((n == 121) & (v == 0))
+    (n == 64 && v < 64) || (n == 121 && v == 0)
 }
 
 // Whether it ends every note of the channel at once: All Sound Off.
 pub fn silences_all(n: u8, v: u8) -> bool
     ensures { result ≡ silences_all n v }
 {
-    (n == 120) & (v == 0)
+    n == 120 && v == 0
 }
 
 // Whether it is a note-off for each key of the channel: All Notes Off, and with any value the four that elsewhere
@@ -89,5 +92,5 @@ pub fn silences_all(n: u8, v: u8) -> bool
 pub fn ends_all(n: u8, v: u8) -> bool
     ensures { result ≡ ends_all n v }
 {
-    ((n == 123) & (v == 0)) | ((124 <= n) & (n <= 127))
+    (n == 123 && v == 0) || matches!(n, 124..=127)
 }
