@@ -1,7 +1,7 @@
 -- An answer's line has at most 13 bytes: a number and an octave of two, an entry of six, and its commas and its end. So
 -- 16 bytes a byte of input are room.
 -- Assumes nothing.
-use Rattle.std.specs.Prelude.{if◌then◌else◌}
+use Rattle.std.specs.Prelude.{if◌then◌else◌, Ok, Err}
 use Prim.Native.Nat.{ℕ, suc, ◌*◌, ◌≤◌, ◌<◌}
 use mathlib.Core.Bool.{Bool, true, false}
 use mathlib.Core.List.{List, [], ◌∷◌}
@@ -12,8 +12,7 @@ use lib.Signed.{◌≤ℤ◌}
 use lib.ListN.{length, length-append}
 use Rattle.loops.specs.Cases.{or_zero}
 use Rattle.text.specs.Text.{decimal}
-use Rattle.pitch.specs.declared.PitchAnswer.{PitchAnswer}
-use Rattle.pitch.specs.declared.PitchAnswer.TheVariants.{Sounds, OutOfRange}
+use Rattle.refusals.specs.declared.Refusal.TheVariants as refusal
 use Rattle.pitch.specs.Pitch.{rest, position, pitch_at, is_out, pitch_of, pitch_number, pitch_in}
 use Rattle.pitch.proofs.Roots.{entry_at, to_twice}
 use Rattle.pitch.proofs.Rising.{octave_range}
@@ -38,15 +37,21 @@ entry_below : (k s b : ℕ) → (pitch_in (pitch_of k s b)).entry < 131072
 unfolding pitch_of pitch_at
 entry_below k s b = go (is_out k s b)
   where
-    go : (x : Bool) → (pitch_in (if x then OutOfRange else Sounds (pitch_at (position k s b)))).entry < 131072
+    go : (x : Bool) → (pitch_in (if x then Err refusal.PitchOutOfRange else Ok (pitch_at (position k s b)))).entry < 131072
     go true = omega arith
     go false =
         let h = rest_below (position k s b) in
         rw (entry_at (rest (position k s b) 192) h) (to_twice (rest (position k s b) 192) h)
 
-number_length : (a : PitchAnswer) → length (decimal (or_zero (pitch_number a))) ≤ 2
-number_length (Sounds p) = decimal-length 1 20 0 (omega arith)
-number_length OutOfRange = decimal-length 1 20 21 (omega arith)
+number_length : (k s b : ℕ) → length (decimal (or_zero (pitch_number (pitch_of k s b)))) ≤ 2
+unfolding pitch_of
+number_length k s b = go (is_out k s b)
+  where
+    go : (x : Bool)
+        → length (decimal (or_zero (pitch_number
+        (if x then Err refusal.PitchOutOfRange else Ok (pitch_at (position k s b)))))) ≤ 2
+    go true = decimal-length 1 20 21 (omega arith)
+    go false = decimal-length 1 20 0 (omega arith)
 
 answer-length : (k s b : ℕ) → length (answer_line (pitch_of k s b)) ≤ 16
 unfolding answer_line pitch_fields
@@ -54,7 +59,7 @@ answer-length k s b =
     let p = pitch_in (pitch_of k s b) in
     let r = octave_range k s b in
     let e = entry_below k s b in
-    let x = number_length (pitch_of k s b) in
+    let x = number_length k s b in
     let y = signed-length p.octave r.0 r.1 in
     let z = decimal-length 5 20 p.entry (omega arith) in
     simp length-append (omega arith)

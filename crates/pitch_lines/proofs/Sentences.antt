@@ -1,7 +1,7 @@
 -- What an input is answered, said of lines and their fields (specs/Fields) and not of bytes: the laws of crate `fields`
 -- for this filter's answer of a line.
 -- Assumes nothing.
-use Rattle.std.specs.Prelude.{if◌then◌else◌}
+use Rattle.std.specs.Prelude.{if◌then◌else◌, Result}
 use Prim.Native.Nat.{ℕ, suc, ◌^◌, ◌<◌}
 use mathlib.Core.Path.{◌≡◌, refl, ◌∙◌}
 use mathlib.Core.Bool.{Bool, true, false, ◌&&◌}
@@ -10,6 +10,7 @@ use lib.Dec.{eqb, lit<}
 use lib.IntN.{ℤ, pos, negsuc}
 use Rattle.loops.specs.Cases.{or_zero}
 use Rattle.loops.specs.Passes.{count}
+use Rattle.refusals.specs.declared.Refusal.{Refusal}
 use Rattle.text.specs.Text.{decimal_within, decimal}
 use Rattle.fields.specs.declared.Line.{Line}
 use Rattle.fields.specs.Line.{kept}
@@ -18,7 +19,7 @@ use Rattle.fields.specs.Fields.{is_field, are_fields, line_ends, behind, number_
 use Rattle.fields.proofs.Told.{Reads, told, never, either}
 use Rattle.fields.proofs.Written.{written, ends_parts, ends_decimal}
 use Rattle.fields.proofs.Sentences as sentences
-use Rattle.pitch.specs.declared.PitchAnswer.{PitchAnswer}
+use Rattle.pitch.specs.declared.Pitch.{Pitch}
 use Rattle.pitch.specs.Pitch.{position, pitch_at, pitch_of, pitch_number, pitch_in}
 use Rattle.pitch.proofs.Roots.{entry_at}
 use Rattle.pitch_lines.specs.PitchLines.{signed, pitch_fields, answer_line, is_call, line_answer, answers_to, answers}
@@ -103,7 +104,7 @@ unfolding count
 ends_signed (pos n) = ends_decimal 20 n
 ends_signed (negsuc n) = rw (ends_decimal 20 (suc n))
 
-ends_answer : (a : PitchAnswer) → line_ends (answer_line a) ≡ 1
+ends_answer : (a : Result Pitch Refusal) → line_ends (answer_line a) ≡ 1
 unfolding count answer_line pitch_fields
 ends_answer a =
     let p = pitch_in a in

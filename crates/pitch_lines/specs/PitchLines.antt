@@ -1,10 +1,10 @@
 -- R17.1, R17.3: the filter `pitches`: a call a line, `k,s,b` in decimal, and for each a line `number,octave,entry`,
 -- what `pitch_of k s b` answers. All text is ASCII, and every line ends with byte 0AH.
-use Rattle.std.specs.Prelude.{ℕ, suc, ◌≡◌, Bool, ◌&&◌, List, [], ◌∷◌, ◌++◌, eqb, ℤ, pos, negsuc, if◌then◌else◌}
+use Rattle.std.specs.Prelude.{ℕ, suc, ◌≡◌, Bool, ◌&&◌, List, [], ◌∷◌, ◌++◌, eqb, ℤ, pos, negsuc, Result, if◌then◌else◌}
 use Rattle.loops.specs.Cases.{or_zero}
+use Rattle.refusals.specs.declared.Refusal.{Refusal}
 use Rattle.text.specs.Text.{Put, decimal}
 use Rattle.pitch.specs.declared.Pitch.{Pitch}
-use Rattle.pitch.specs.declared.PitchAnswer.{PitchAnswer}
 use Rattle.pitch.specs.Pitch.{pitch_of, pitch_number, pitch_in}
 use Rattle.fields.specs.declared.Line.{Line}
 use Rattle.fields.specs.Answers.{malformed_line, answer_by, answers_by, end_answer_by, all_answers_by}
@@ -24,7 +24,7 @@ unfoldable pub pitch_fields : Pitch → List ℕ
 pitch_fields p = (44 ∷ signed p.octave) ++ (44 ∷ decimal p.entry) ++ (10 ∷ [])
 
 -- the line of an answer: its number, 0 for a pitch, then octave and entry
-unfoldable pub answer_line : PitchAnswer → List ℕ
+unfoldable pub answer_line : Result Pitch Refusal → List ℕ
 answer_line a = decimal (or_zero (pitch_number a)) ++ pitch_fields (pitch_in a)
 
 -- the answer of a line that has ended: a call has three numbers, the last with a digit as the others

@@ -9,8 +9,8 @@ ghost use Rattle.fields.specs.Line.{after, after_all};
 ghost use Rattle.pitch_lines.specs.PitchLines.{Answers, signed, pitch_fields};
 ghost use Rattle.pitch_lines.specs.PitchLines.{line_answer, answer, answers_to, end_answer};
 
-use fields::{Line, at_most};
-use pitch::{Pitch, PitchAnswer};
+use fields::Line;
+use pitch::Pitch;
 use text::{put, put_number};
 
 // What is read of a line after the bytes of a read, and the place in the page behind their answers.
@@ -20,16 +20,16 @@ pub struct Answered {
     pub used: usize,
 }
 
-// A comma and the octave; -1 less a negative number is one less than its amount, and so fits for the lowest too.
+// A comma and the octave.
 fn put_octave(page: &mut [u8], at: usize, octave: i8) -> usize
     ensures { Put page.old at (44 ∷ signed octave) result page.new }
 {
-    if octave < 0 {
-        let k = put(page, at, b",-");
-        return put_number(page, k, ((-1 - octave) as u64) + 1);
-    }
-    let k = put(page, at, b",");
-    put_number(page, k, octave as u64)
+    let k = if octave < 0 {
+        put(page, at, b",-")
+    } else {
+        put(page, at, b",")
+    };
+    put_number(page, k, u64::from(octave.unsigned_abs()))
 }
 
 // Octave and entry of a pitch, a comma before each, and 0AH.
@@ -38,7 +38,7 @@ pub fn put_pitch(page: &mut [u8], at: usize, p: Pitch) -> usize
 {
     let a = put_octave(page, at, p.octave);
     let b = put(page, a, b",");
-    let c = put_number(page, b, p.entry as u64);
+    let c = put_number(page, b, u64::from(p.entry));
     put(page, c, b"\n")
 }
 
@@ -48,17 +48,19 @@ fn put_answer(page: &mut [u8], at: usize, c: Line) -> usize
     ensures { Put page.old at (line_answer c) result page.new }
 {
     if c.digit & (c.commas == 2) {
-        let key = at_most(255, c.first as u64) as u8;
-        let sensitivity = at_most(255, c.previous as u64) as u8;
-        let bend = at_most(65535, c.last as u64) as u16;
-        let a = pitch::pitch_of(key, sensitivity, bend);
-        match a {
-            PitchAnswer::Sounds(p) => {
+        let key = c.first.min(255) as u8;
+        let sensitivity = c.previous.min(255) as u8;
+        let bend = c.last.min(65535) as u16;
+        return match pitch::pitch_of(key, sensitivity, bend) {
+            Ok(p) => {
                 let k = put(page, at, b"0");
-                return put_pitch(page, k, p);
+                put_pitch(page, k, p)
             }
-            PitchAnswer::OutOfRange => return put(page, at, b"21,0,65536\n"),
-        }
+            Err(r) => {
+                let k = put_number(page, at, u64::from(r.number()));
+                put(page, k, b",0,65536\n")
+            }
+        };
     }
     put(page, at, b"malformed\n")
 }
@@ -86,15 +88,10 @@ pub fn all(c: Line, page: &mut [u8], bytes: &[u8]) -> Answered
 {
     let mut k = c;
     let mut used = 0;
-    let mut i = 0;
-    while i < bytes.len() {
-        k = one(k, page, &mut used, bytes[i]);
-        i += 1;
+    for &b in bytes {
+        k = one(k, page, &mut used, b);
     }
-    Answered {
-        line: k,
-        used: used,
-    }
+    Answered { line: k, used }
 }
 
 // The end of the input: a last line without its 0AH is answered all the same, if it has a byte.

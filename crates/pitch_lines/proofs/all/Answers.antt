@@ -1,6 +1,5 @@
--- `pitch_lines::all`: at turn i the first i bytes are answered. The measure is what is left of them.
+-- `pitch_lines::all`: before the byte at an index the bytes before it are answered.
 -- Assumes nothing.
-use native.Mathlib.Omega.{arith}
 use mathlib.Core.Path.{refl, ◌∙◌}
 use Rattle.text.proofs.Joined.{nothing_put}
 use Rattle.fields.specs.Line.{after_all}
@@ -8,20 +7,18 @@ use Rattle.fields.specs.Answers.{answers_by}
 use Rattle.pitch_lines.proofs.Parts.{one_more, no_more, stands_whole}
 use Rattle.pitch_lines.proofs.all.Goals as goal
 
-pub loop-i-init : goal.loop-i-init
+pub loop-b-init : goal.loop-b-init
 unfolding answers_by after_all
-loop-i-init c = (omega arith, refl, refl, nothing_put _ _)
+loop-b-init c = (refl, refl, nothing_put _ _)
 
-pub loop-i-preserved : goal.loop-i-preserved
-loop-i-preserved c =
-    let b = c.loop-i in
+pub loop-b-preserved : goal.loop-b-preserved
+loop-b-preserved c =
+    let i = c.loop-b.invariant in
     let o = c.one-k in
-    let m = one_more _ _ _ _ o.result
-    c.loop-i-test.true b.invariant.2 b.invariant.3 o.ensures in
-    (omega arith, o.auto.page ∙ b.invariant.1, m.0, m.1)
+    let m = one_more _ _ _ _ o.result c.loop-b-test.true i.1 i.2 o.ensures in (o.auto.page ∙ i.0, m.0, m.1)
 
 pub returns : goal.returns
 returns c =
-    let b = c.loop-i in
-    let w = no_more _ _ _ _ c.loop-i-test.false b.invariant.2 b.invariant.3 in
+    let i = c.loop-b.invariant in
+    let w = no_more _ _ _ _ c.loop-b-test.false i.1 i.2 in
     record { answers = w; page_after = λ h. stands_whole _ _ _ w.put h }
