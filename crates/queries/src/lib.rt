@@ -6,90 +6,59 @@ ghost use Rattle.std.specs.Prelude.{◌≡◌};
 ghost use Rattle.queries.specs.Queries.{generator_query, mask_query, share_query, rhythm_query};
 
 use device::Device;
+use refusals::Refusal;
 use shares::Share;
 
-// The answer to a query of a generator.
-#[derive(Clone, Copy)]
-pub enum GeneratorAnswer {
-    // Its state, its channel and its key.
-    GeneratorIs(u8, u8, u8),
-    // Number 12: there is no generator of that number.
-    NoGenerator,
-}
-
-// The answer to a query of a mask.
-#[derive(Clone, Copy)]
-pub enum MaskAnswer {
-    // The channel is masked.
-    IsMasked,
-    // The channel is unmasked.
-    IsUnmasked,
-    // Number 14: the channel is not 1 to 16.
-    NoSuchChannel,
-}
-
-// The answer to a query of a share.
-#[derive(Clone, Copy)]
-pub enum ShareAnswer {
-    // The channel's share, 0 if it is masked.
-    ShareIs(u8),
-    // Number 14: the channel is not 1 to 16.
-    NotAChannel,
+// What a query of a generator tells of it.
+#[derive(Clone, Copy, PartialEq, Eq)]
+pub struct GeneratorState {
+    pub state: u8,
+    pub channel: u8,
+    pub key: u8,
 }
 
 // The state, channel and key of generator g.
-pub fn generator_query(d: Device, g: u8) -> GeneratorAnswer
+pub fn generator_query(d: Device, g: u8) -> Result<GeneratorState, Refusal>
     ensures { result ≡ generator_query d g }
 {
-    let i = d.instrument;
-    if i.polyphony <= g {
-        return GeneratorAnswer::NoGenerator;
+    if d.instrument.polyphony <= g {
+        return Err(Refusal::NoGenerator);
     }
-    let s = i.generators;
-    let state = s.state;
-    let channel = s.channel;
-    let key = s.key;
-    GeneratorAnswer::GeneratorIs(
-        loops::element(state, g),
-        loops::element(channel, g),
-        loops::element(key, g),
-    )
+    let generators = d.instrument.generators;
+    let at = usize::from(g);
+    Ok(GeneratorState {
+        state: generators.state.get(at).copied().unwrap_or(0),
+        channel: generators.channel.get(at).copied().unwrap_or(0),
+        key: generators.key.get(at).copied().unwrap_or(0),
+    })
 }
 
 // Whether a channel is masked.
-pub fn mask_query(d: Device, channel: u8) -> MaskAnswer
+pub fn mask_query(d: Device, channel: u8) -> Result<bool, Refusal>
     ensures { result ≡ mask_query d channel }
 {
-    if shares::is_channel(channel) {
-        let i = d.instrument;
-        let t = i.table;
-        if shares::masks(t, i.polyphony, channel) {
-            return MaskAnswer::IsMasked;
-        }
-        return MaskAnswer::IsUnmasked;
+    if !shares::is_channel(channel) {
+        return Err(Refusal::NoChannel);
     }
-    MaskAnswer::NoSuchChannel
+    Ok(shares::masks(d.instrument.table, d.instrument.polyphony, channel))
 }
 
 // The share of a channel, 0 if it is masked.
-pub fn share_query(d: Device, channel: u8) -> ShareAnswer
+pub fn share_query(d: Device, channel: u8) -> Result<u8, Refusal>
     ensures { result ≡ share_query d channel }
 {
-    if shares::is_channel(channel) {
-        let i = d.instrument;
-        let t = i.table;
-        return match shares::share_of(t, i.polyphony, channel) {
-            Share::Masked => ShareAnswer::ShareIs(0),
-            Share::Units(n) => ShareAnswer::ShareIs(n),
-        };
+    if !shares::is_channel(channel) {
+        return Err(Refusal::NoChannel);
     }
-    ShareAnswer::NotAChannel
+    match shares::share_of(d.instrument.table, d.instrument.polyphony, channel) {
+        Share::Masked => Ok(0),
+        Share::Units(n) => Ok(n),
+    }
 }
 
 // Whether it is a rhythm channel; what is no channel is none.
 pub fn rhythm_query(d: Device, channel: u8) -> bool
     ensures { result ≡ rhythm_query d channel }
 {
-    let i = d.instrument;
-    i.is_rhythm(channel)
+    d.instrument.is_rhythm(channel)
 }
