@@ -15,7 +15,7 @@ use Rattle.table.specs.declared.Entry.{Entry}
 use Rattle.table.specs.declared.Table.{Table}
 use Rattle.table.specs.Laws.{Rising, Distinct, Channels}
 use Rattle.table.specs.Table.{entry, entries_of, listed}
-use Rattle.shares.specs.declared.Share.TheVariants.{Units}
+use Rattle.std.specs.Prelude.{Some}
 use Rattle.shares.specs.Shares.{shares_from, shares, sum, lookup, share_of, is_masked}
 
 -- what follows a value above P is masked
@@ -92,13 +92,13 @@ masked_unlisted c [] = refl
 masked_unlisted c (e ∷ l) = go (eqb c e.channel) (masked_unlisted c l)
   where
     go : (b : Bool) → is_masked (lookup c l) ≡ not (listed c l)
-        → is_masked (if b then Units e.value else lookup c l) ≡ not (b || listed c l)
+        → is_masked (if b then Some e.value else lookup c l) ≡ not (b || listed c l)
     go true ih = refl
     go false ih = ih
 
 -- the first channel of a table has its whole value as its share
 pub first-share : (p : ℕ) (e : Entry) (l : List Entry) (t : Table)
-    → entries_of t ≡ e ∷ l → e.value ≤ p → share_of t p e.channel ≡ Units e.value
+    → entries_of t ≡ e ∷ l → e.value ≤ p → share_of t p e.channel ≡ Some e.value
 unfolding share_of lookup shares_from
 first-share p e l t q h =
-    rw (q, le-leb e.value p h, eq-eqb e.channel e.channel refl) (ap Units (sub-zero e.value))
+    rw (q, le-leb e.value p h, eq-eqb e.channel e.channel refl) (ap Some (sub-zero e.value))

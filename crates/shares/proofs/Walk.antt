@@ -4,26 +4,26 @@ use Rattle.std.specs.Prelude.{if◌then◌else◌}
 use mathlib.Core.Path.{◌≡◌, refl, sym, ◌∙◌}
 use mathlib.Core.Bool.{Bool, true, false, ◌&&◌}
 use mathlib.Core.List.{List, ◌∷◌}
-use Prim.Native.Nat.{ℕ, ◌+◌, ◌-◌, ◌≤◌, ◌<◌}
+use Prim.Native.Nat.{ℕ, suc, ◌+◌, ◌-◌, ◌≤◌, ◌<◌}
+use native.Mathlib.Numerals.{add-one}
 use lib.Dec.{leb, eqb}
-use lib.ListN.{length, take, drop, get_or}
+use lib.ListN.{length, drop, get_or, drop_of_length-le}
+use lib.Seq.{drop-cons}
 use Rattle.loops.proofs.Tests.{impossible}
 use Rattle.table.specs.declared.Entry.{Entry}
 use Rattle.table.specs.Table.{entry}
-use Rattle.table.proofs.Walk.{rest-next, rest_end}
-use Rattle.shares.specs.declared.Share.{Share}
-use Rattle.shares.specs.declared.Share.TheVariants.{Masked, Units}
+use Rattle.std.specs.Prelude.{Option, Some, None}
 use Rattle.shares.specs.Shares.{lookup, shares_from}
 
 -- the first entry is the channel's and unmasked, with v before it; it is not
 module _ (p c v : ℕ) (x : Entry) (l : List Entry) where
-  share-first : leb x.value p && eqb c x.channel ≡ true → lookup c (shares_from p v (x ∷ l)) ≡ Units (x.value - v)
+  share-first : leb x.value p && eqb c x.channel ≡ true → lookup c (shares_from p v (x ∷ l)) ≡ Some (x.value - v)
   unfolding lookup shares_from
   share-first t = go (leb x.value p) t
     where
       go : (b : Bool) → b && eqb c x.channel ≡ true
           → lookup c (if b then entry x.channel (x.value - v) ∷ shares_from p x.value l
-          else shares_from p x.value l) ≡ Units (x.value - v)
+          else shares_from p x.value l) ≡ Some (x.value - v)
       go true t = rw t
       go false t = impossible (cc)
 
@@ -39,20 +39,21 @@ module _ (p c v : ℕ) (x : Entry) (l : List Entry) where
       go true t = rw t
       go false t = refl
 
-module _ (l : List Entry) (n i : ℕ) where
+module _ (l : List Entry) (i : ℕ) where
   -- the entry at i is the channel's and unmasked, with v before it; it is not; there is none left
-  pub share_here : (p c v : ℕ) (r : Share) → i < n → n ≤ length l → lookup c (shares_from p v (drop i (take n l))) ≡ r
+  pub share_here : (p c v : ℕ) (r : Option ℕ) → i < length l → lookup c (shares_from p v (drop i l)) ≡ r
       → leb (get_or l i (entry 0 0)).value p && eqb c (get_or l i (entry 0 0)).channel ≡ true
-      → Units ((get_or l i (entry 0 0)).value - v) ≡ r
-  share_here p c v r h k e t =
-      sym (share-first p c v (get_or l i (entry 0 0)) (drop (i + 1) (take n l)) t) ∙ (rw (rest-next l n i h k) at e)
+      → Some ((get_or l i (entry 0 0)).value - v) ≡ r
+  share_here p c v r h e t =
+      sym (share-first p c v (get_or l i (entry 0 0)) (drop (suc i) l) t) ∙ (rw (drop-cons l i (entry 0 0) h) at e)
 
-  pub share-next : (p c v : ℕ) (r : Share) → i < n → n ≤ length l → lookup c (shares_from p v (drop i (take n l))) ≡ r
+  pub share-next : (p c v : ℕ) (r : Option ℕ) → i < length l → lookup c (shares_from p v (drop i l)) ≡ r
       → leb (get_or l i (entry 0 0)).value p && eqb c (get_or l i (entry 0 0)).channel ≡ false
-      → lookup c (shares_from p (get_or l i (entry 0 0)).value (drop (i + 1) (take n l))) ≡ r
-  share-next p c v r h k e t =
-      sym (share-past p c v (get_or l i (entry 0 0)) (drop (i + 1) (take n l)) t) ∙ (rw (rest-next l n i h k) at e)
+      → lookup c (shares_from p (get_or l i (entry 0 0)).value (drop (i + 1) l)) ≡ r
+  share-next p c v r h e t =
+      rw add-one (sym (share-past p c v (get_or l i (entry 0 0)) (drop (suc i) l) t)
+      ∙ (rw (drop-cons l i (entry 0 0) h) at e))
 
-  pub share_end : (p c v : ℕ) (r : Share) → n ≤ i → lookup c (shares_from p v (drop i (take n l))) ≡ r → Masked ≡ r
+  pub share_end : (p c v : ℕ) (r : Option ℕ) → length l ≤ i → lookup c (shares_from p v (drop i l)) ≡ r → None ≡ r
   unfolding lookup shares_from
-  share_end p c v r h e = rw (rest_end l n i h) at e
+  share_end p c v r h e = rw (drop_of_length-le l h) at e

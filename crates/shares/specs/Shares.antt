@@ -1,11 +1,9 @@
 -- Which channels of a table are unmasked among P generators, and with which share (R2.2 to R2.5).
 -- Assumes nothing.
-use Rattle.std.specs.Prelude.{ℕ, ◌+◌, ◌-◌, Bool, true, false, ◌&&◌, List, [], ◌∷◌, eqb, leb, if◌then◌else◌}
+use Rattle.std.specs.Prelude.{ℕ, ◌+◌, ◌-◌, Bool, ◌&&◌, List, [], ◌∷◌, eqb, leb, if◌then◌else◌, Option, Some, None, is_none}
 use Rattle.table.specs.declared.Entry.{Entry}
 use Rattle.table.specs.declared.Table.{Table}
 use Rattle.table.specs.Table.{entry, entries_of}
-use Rattle.shares.specs.declared.Share.{Share}
-use Rattle.shares.specs.declared.Share.TheVariants.{Masked, Units}
 
 -- R2.2, R2.4: the unmasked channels by falling priority, each with its share in place of its value; v is the value
 -- before the first entry
@@ -25,17 +23,16 @@ sum [] = 0
 sum (e ∷ l) = e.value + sum l
 
 -- what stands beside a channel
-unfoldable pub lookup : ℕ → List Entry → Share
-lookup c [] = Masked
-lookup c (e ∷ l) = if eqb c e.channel then Units e.value else lookup c l
+unfoldable pub lookup : ℕ → List Entry → Option ℕ
+lookup c [] = None
+lookup c (e ∷ l) = if eqb c e.channel then Some e.value else lookup c l
 
 -- R2.3, R2.5: the share of a channel; what is not among them is masked, and has none
-unfoldable pub share_of : Table → ℕ → ℕ → Share
+unfoldable pub share_of : Table → ℕ → ℕ → Option ℕ
 share_of t p c = lookup c (shares p t)
 
-abbrev pub is_masked : Share → Bool
-is_masked Masked = true
-is_masked (Units n) = false
+abbrev pub is_masked : Option ℕ → Bool
+is_masked s = is_none s
 
 -- whether a number is a channel's
 abbrev pub is_channel : ℕ → Bool

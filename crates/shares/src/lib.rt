@@ -5,49 +5,33 @@
 ghost use Rattle.std.specs.Prelude.{◌≡◌};
 ghost use Rattle.shares.specs.Shares.{share_of, is_masked, is_channel};
 
-use loops::{at_most, less};
 use table::Table;
 
-// What a channel is sure of.
-#[derive(Clone, Copy)]
-pub enum Share {
-    // It is unlisted, or its value is above P: it may not play.
-    Masked,
-    // It is unmasked, with this share.
-    Units(u8),
-}
-
-// The share of a channel among P generators.
-pub fn share_of(table: Table, polyphony: u8, channel: u8) -> Share
+// The share of a channel among P generators; none for a masked channel: one that is unlisted, or whose value is above P,
+// and may not play.
+pub fn share_of(table: Table, polyphony: u8, channel: u8) -> Option<u8>
     ensures { result ≡ share_of table polyphony channel }
 {
-    let entries = table.entries;
-    let n = at_most(16, table.count) as usize;
-    let mut before: u8 = 0;
-    let mut i: usize = 0;
-    while i < n {
-        let e = entries[i];
-        if (e.value <= polyphony) & (channel == e.channel) {
-            return Share::Units(less(e.value, before));
+    let n = usize::from(table.count.min(16));
+    let mut before = 0;
+    for e in &table.entries[..n] {
+        if e.value <= polyphony && channel == e.channel {
+            return Some(e.value.saturating_sub(before));
         }
         before = e.value;
-        i += 1;
     }
-    Share::Masked
+    None
 }
 
 pub fn masks(table: Table, polyphony: u8, channel: u8) -> bool
     ensures { result ≡ is_masked (share_of table polyphony channel) }
 {
-    match share_of(table, polyphony, channel) {
-        Share::Masked => true,
-        Share::Units(_) => false,
-    }
+    share_of(table, polyphony, channel).is_none()
 }
 
 // Whether a number is a channel's.
 pub fn is_channel(channel: u8) -> bool
     ensures { result ≡ is_channel channel }
 {
-    (1 <= channel) & (channel <= 16)
+    (1..=16).contains(&channel)
 }

@@ -1,51 +1,47 @@
--- `shares::share_of` meets its contract. Invariant: the share that the channel finds in the entries from i on, with the
--- value before them, is the one that it finds in all of them.
+-- `shares::share_of` meets its contract. Invariant: the share that the channel finds in the entries that are left, with
+-- the value before them, is the one that it finds in all of them.
 -- Assumes nothing.
-use mathlib.Core.Path.{refl, ap, ◌∙◌}
+use mathlib.Core.Path.{ap, ◌∙◌}
 use mathlib.Core.List.{List}
-use native.Mathlib.Omega.{arith}
+use borrow.Author.Tests.{le-leb, lt-leb, eq-eqb, ne_eqb}
+use lib.ListN.{take}
+use Rattle.std.specs.Prelude.{Some}
 use Rattle.table.specs.declared.Entry.{Entry}
-use Rattle.shares.specs.declared.Share.TheVariants.{Units}
-use Rattle.shares.specs.Shares.{lookup, shares_from, share_of}
 use Rattle.table.proofs.Sizes.{entries_16}
 use Rattle.table.proofs.Walk.{all_entries}
+use Rattle.shares.specs.Shares.{lookup, shares_from, share_of}
 use Rattle.shares.proofs.Walk.{share_here, share-next, share_end}
 use Rattle.shares.proofs.share_of.Goals as goal
+use Rattle.shares.proofs.share_of.Goals.{else-e-polyphony-via-then-e-polyphony+else-channel-e, else-e-polyphony-via-else-e-polyphony}
 
-pub loop-i-init : goal.loop-i-init
-loop-i-init c = let s = c in (omega arith, omega arith, entries_16 s.args.table s.well_formed.0, refl)
-
-pub returns-then-e-polyphony : goal.returns-then-e-polyphony
+pub loop-e-init : goal.loop-e-init
 unfolding share_of
-returns-then-e-polyphony c =
-    let b = c in
-    let n = b.at_most-n in
-    let a = b.args in
-    ap Units c.less.ensures
-    ∙ share_here a.table.entries n.result b.loop-i.i a.polyphony a.channel
-    b.loop-i.before _ (omega arith) (omega arith) b.loop-i.invariant.3 c.if-e-polyphony.true
-    ∙ ap (λ (l : List Entry). lookup a.channel (shares_from a.polyphony 0 l))
-    (all_entries a.table n.result b.loop-i.invariant.2 n.ensures.0)
+loop-e-init c =
+    let a = c.args in
+    ap (λ (l : List Entry). lookup a.channel (shares_from a.polyphony 0 l))
+    (all_entries a.table c.from-n.result (entries_16 a.table c.well_formed.0) (c.from-n.ensures ∙ c.min.ensures))
 
-pub loop-i-preserved : goal.loop-i-preserved
-loop-i-preserved c =
-    let b = c in
-    let n = b.at_most-n in
-    let a = b.args in (
-      omega arith,
-      omega arith,
-      b.loop-i.invariant.2,
-      share-next a.table.entries n.result b.loop-i.i a.polyphony a.channel
-          b.loop-i.before _ (omega arith) (omega arith) b.loop-i.invariant.3 c.if-e-polyphony.false,
-    )
+pub returns-then-channel-e : goal.returns-then-channel-e
+returns-then-channel-e c =
+    let a = c.args in
+    ap Some c.saturating_sub.ensures
+    ∙ share_here (take c.from-n.result a.table.entries) c.loop-e.e-index a.polyphony a.channel c.loop-e.before _
+    c.loop-e-test.true c.loop-e.invariant
+    (rw (le-leb _ _ c.if-e-polyphony.true) (eq-eqb _ _ c.if-channel-e.true))
+
+pub loop-e-preserved : goal.loop-e-preserved
+loop-e-preserved c =
+    let a = c.args in
+    let next = share-next (take c.from-n.result a.table.entries) c.loop-e.e-index a.polyphony a.channel c.loop-e.before _
+    c.loop-e-test.true c.loop-e.invariant in
+    elim c.else-e-polyphony.branch [
+      | else-e-polyphony-via-then-e-polyphony+else-channel-e w ↦
+          next (rw (le-leb _ _ w.if-e-polyphony.true) (ne_eqb _ _ w.if-channel-e.false))
+      | else-e-polyphony-via-else-e-polyphony w ↦ next (rw (lt-leb _ _ w.if-e-polyphony.false))
+    ]
 
 pub returns : goal.returns
-unfolding share_of
 returns c =
-    let b = c in
-    let n = b.at_most-n in
-    let a = b.args in
-    share_end a.table.entries n.result b.loop-i.i a.polyphony
-    a.channel b.loop-i.before _ (omega arith) b.loop-i.invariant.3
-    ∙ ap (λ (l : List Entry). lookup a.channel (shares_from a.polyphony 0 l))
-    (all_entries a.table n.result b.loop-i.invariant.2 n.ensures.0)
+    let a = c.args in
+    share_end (take c.from-n.result a.table.entries) c.loop-e.e-index a.polyphony a.channel c.loop-e.before _
+    c.loop-e-test.false c.loop-e.invariant
