@@ -6,8 +6,8 @@ use Rattle.loops.specs.Passes.{up_to, first_of}
 use Rattle.events.specs.declared.Event.{Event}
 use Rattle.events.specs.declared.Event.TheVariants.{Byte, Report}
 use Rattle.event_line.specs.declared.Line.{Line}
-use Rattle.event_line.specs.declared.Meaning.{Meaning}
-use Rattle.event_line.specs.declared.Meaning.TheVariants.{Says, Other}
+use Rattle.std.specs.Prelude.{Some, None}
+use Rattle.std.specs.Prelude as std
 
 -- a number below 1000 in decimal, with no zero before it; digit 0 is byte 48
 unfoldable pub decimal : ℕ → List ℕ
@@ -59,6 +59,7 @@ put l b = if ltb l.count 7 then record { count = l.count + 1; bytes = set l.byte
 abbrev pub text_of : Line → List ℕ
 text_of l = take l.count l.bytes
 
-abbrev pub meaning_of : Option Event → Meaning
-meaning_of none = Other
-meaning_of (some e) = Says e
+-- the code's Option of an event
+abbrev pub meaning_of : Option Event → std.Option Event
+meaning_of none = None
+meaning_of (some e) = Some e

@@ -1,12 +1,11 @@
 // A line of a song's log (R14.1): which event it says, for every text. Assumes nothing.
 #![tactic(auto)]
 
-ghost use Rattle.std.specs.Prelude.{◌≡◌, [], ◌∷◌};
+ghost use Rattle.std.specs.Prelude.{◌≡◌, ◌≤◌, length};
 ghost use Rattle.event_line.specs.Log.{blank, put, text_of, event_of, meaning_of};
-ghost use Rattle.event_line.specs.Parse.{is_digit, right, event_by, parse};
+ghost use Rattle.event_line.specs.Parse.{are_digits, number, event_by};
 
 use events::Event;
-use loops::less;
 
 // The bytes of a line so far, its 0AH included. The first seven are kept and counted: no line of an event is longer
 // than six.
@@ -15,15 +14,6 @@ use loops::less;
 pub struct Line {
     pub count: u8,
     pub bytes: [u8; 7],
-}
-
-// What a line says.
-#[derive(Clone, Copy)]
-pub enum Meaning {
-    // An event.
-    Says(Event),
-    // Nothing: it is of another form.
-    Other,
 }
 
 impl Line {
@@ -41,99 +31,60 @@ impl Line {
     pub fn push(self, b: u8) -> Self
         ensures { result ≡ put self b }
     {
-        let n = self.count;
-        if 7 <= n {
+        let Line { count, mut bytes } = self;
+        if 7 <= count {
             return self;
         }
-        let mut bytes = self.bytes;
-        bytes[n as usize] = b;
+        bytes[usize::from(count)] = b;
         Line {
-            count: n + 1,
-            bytes: bytes,
+            count: count + 1,
+            bytes,
         }
     }
 }
 
-fn wide(x: u8) -> u64
-    ensures { result ≡ x }
+// A number below 1000 in digits, with no zero before it.
+fn are_digits(digits: &[u8]) -> bool
+    ensures { result ≡ are_digits digits.now }
 {
-    x as u64
+    match digits.first() {
+        Some(b'0') => digits.len() == 1,
+        Some(_) => digits.len() <= 3 && digits.iter().all(|d| d.is_ascii_digit()),
+        None => false,
+    }
 }
 
-fn is_digit(x: u8) -> bool
-    ensures { result ≡ is_digit x }
+// The number of some digits.
+fn number(digits: &[u8]) -> u16
+    requires { length digits.now ≤ 3 }
+    ensures { result ≡ number digits.now }
 {
-    (48 <= x) & (x <= 57)
-}
-
-// The comma and the end, and whether the digits are right.
-fn is_right(c: u8, e: u8, digits: bool) -> bool
-    ensures { result ≡ right c e digits }
-{
-    (c == 44) & ((e == 10) & digits)
+    let mut n: u16 = 0;
+    for d in digits {
+        n = 10 * n + u16::from(d.saturating_sub(b'0'));
+    }
+    n
 }
 
 // `b` and a byte, or `e` and a generator.
-fn event_by(k: u8, v: u64) -> Meaning
-    ensures { result ≡ meaning_of (event_by k v) }
+fn event_by(letter: u8, v: u16) -> Option<Event>
+    ensures { result ≡ meaning_of (event_by letter v) }
 {
-    if (k == 98) & (v < 256) {
-        return Meaning::Says(Event::Byte(v as u8));
+    match letter {
+        b'b' if v < 256 => Some(Event::Byte(v as u8)),
+        b'e' if v < 64 => Some(Event::Report(v as u8)),
+        _ => None,
     }
-    if (k == 101) & (v < 64) {
-        return Meaning::Says(Event::Report(v as u8));
-    }
-    Meaning::Other
 }
 
-fn one_digit(k: u8, c: u8, x: u8, e: u8) -> Meaning
-    ensures { result ≡ meaning_of (parse (k ∷ c ∷ x ∷ e ∷ [])) }
-{
-    if is_right(c, e, is_digit(x)) {
-        return event_by(k, wide(less(x, 48)));
-    }
-    Meaning::Other
-}
-
-fn two_digits(k: u8, c: u8, x: u8, y: u8, e: u8) -> Meaning
-    ensures { result ≡ meaning_of (parse (k ∷ c ∷ x ∷ y ∷ e ∷ [])) }
-{
-    if is_right(c, e, (x != 48) & (is_digit(x) & is_digit(y))) {
-        return event_by(k, 10 * wide(less(x, 48)) + wide(less(y, 48)));
-    }
-    Meaning::Other
-}
-
-fn three_digits(k: u8, c: u8, x: u8, y: u8, z: u8, e: u8) -> Meaning
-    ensures { result ≡ meaning_of (parse (k ∷ c ∷ x ∷ y ∷ z ∷ e ∷ [])) }
-{
-    if is_right(
-        c,
-        e,
-        (x != 48) & (is_digit(x) & (is_digit(y) & is_digit(z))),
-    ) {
-        return event_by(
-            k,
-            100 * wide(less(x, 48)) + 10 * wide(less(y, 48)) + wide(less(z, 48)),
-        );
-    }
-    Meaning::Other
-}
-
-// What a line says.
-pub fn read(l: Line) -> Meaning
+// What a line says; nothing where it is of another form.
+pub fn read(l: Line) -> Option<Event>
     ensures { result ≡ meaning_of (event_of (text_of l)) }
 {
-    let n = l.count;
-    let bytes = l.bytes;
-    if n == 4 {
-        return one_digit(bytes[0], bytes[1], bytes[2], bytes[3]);
+    match l.bytes.get(..usize::from(l.count))? {
+        [letter, b',', digits @ .., b'\n'] if are_digits(digits) => {
+            event_by(*letter, number(digits))
+        }
+        _ => None,
     }
-    if n == 5 {
-        return two_digits(bytes[0], bytes[1], bytes[2], bytes[3], bytes[4]);
-    }
-    if n == 6 {
-        return three_digits(bytes[0], bytes[1], bytes[2], bytes[3], bytes[4], bytes[5]);
-    }
-    Meaning::Other
 }

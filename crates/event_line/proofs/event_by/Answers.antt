@@ -1,16 +1,25 @@
--- `event_line::event_by` meets its contract: the code's two tests are the definition's.
+-- `event_line::event_by` meets its contract: the code's tests are the definition's.
 -- Assumes nothing.
+use Rattle.std.proofs.Common.{rules, tests}
 use Rattle.event_line.specs.Parse.{event_by}
 use Rattle.event_line.proofs.event_by.Goals as goal
 
-pub returns-then-k-v : goal.returns-then-k-v
+pub returns-in-98 : goal.returns-in-98
 unfolding event_by
-returns-then-k-v c = simp c.if-k-v.true
+returns-in-98 c = search (tests, rules)
 
-pub returns-then-k-v-2 : goal.returns-then-k-v-2
+pub returns-in-101 : goal.returns-in-101
 unfolding event_by
-returns-then-k-v-2 c = simp (c.if-k-v.false, c.if-k-v-2.true)
+returns-in-101 c = search (tests, rules)
 
-pub returns : goal.returns
+pub returns-in_default : goal.returns-in_default
 unfolding event_by
-returns c = simp (c.if-k-v.false, c.if-k-v-2.false)
+returns-in_default c = search (tests, rules)
+
+pub returns-in_default-2 : goal.returns-in_default-2
+unfolding event_by
+returns-in_default-2 c = search (tests, rules)
+
+pub returns-in_default-3 : goal.returns-in_default-3
+unfolding event_by
+returns-in_default-3 c = search (tests, rules)

@@ -5,10 +5,10 @@ use borrow.Author.Tests.{lt-ltb, le-ltb}
 use Rattle.event_line.specs.Log.{put}
 use Rattle.event_line.proofs.Line.push.Goals as goal
 
-pub returns-then-n-ge7 : goal.returns-then-n-ge7
+pub returns-then-count-ge7 : goal.returns-then-count-ge7
 unfolding put
-returns-then-n-ge7 c = simp (le-ltb _ _ c.if-n-ge7.true)
+returns-then-count-ge7 c = simp (le-ltb _ _ c.if-count-ge7.true)
 
 pub returns : goal.returns
 unfolding put
-returns c = simp (lt-ltb _ _ c.if-n-ge7.false)
+returns c = simp (lt-ltb _ _ c.if-count-ge7.false, c.from.ensures)
