@@ -1,12 +1,13 @@
 -- What a complete channel message does to the sound module, and what it answers (R4.11, R4.12). What note-offs,
 -- controllers and program changes do is in `other_messages`.
-use Rattle.std.specs.Prelude.{ℕ}
+use Rattle.std.specs.Prelude.{ℕ, Result, Ok, Err}
 use Rattle.std.proofs.Math.Option.{Option, some, none}
+use Rattle.refusals.specs.declared.Refusal.{Refusal}
+use Rattle.refusals.specs.Refusals as refusals
 use Rattle.message.specs.declared.Message.{Message}
 use Rattle.message.specs.declared.Message.TheVariants as message
 use Rattle.channels.specs.Channel.{with_bend}
 use Rattle.allocation.specs.declared.Taken.{Taken}
-use Rattle.allocation.specs.declared.Taken.TheVariants.{Took, Refused}
 use Rattle.allocation.specs.declared.Allocated.{Allocated}
 use Rattle.allocation.specs.Allocation.{note_on}
 use Rattle.instrument.specs.declared.Instrument.{Instrument}
@@ -18,9 +19,9 @@ use Rattle.playing.specs.declared.Reply.{Reply}
 use Rattle.playing.specs.declared.Sounded.{Sounded}
 
 -- R4.11: the answer to a note-on, or number 10 or 11
-abbrev pub reply_of : Taken → ℕ → ℕ → Answer
-reply_of (Took g w) c k = Note c k g w
-reply_of (Refused n) c k = NoNote n c k
+abbrev pub reply_of : Result Taken Refusal → ℕ → ℕ → Answer
+reply_of (Ok t) c k = Note c k t.generator t.was
+reply_of (Err r) c k = NoNote r c k
 
 abbrev pub note_reply : Instrument → ℕ → ℕ → Allocated → Reply
 note_reply i c k a = record { answer = reply_of a.taken c k; instrument = with_generators i a.generators }
@@ -50,5 +51,5 @@ abbrev pub number_of : Answer → Option ℕ
 number_of Nothing = none
 number_of Done = none
 number_of (Note c k g w) = none
-number_of (NoNote n c k) = some n
-number_of (Number n) = some n
+number_of (NoNote r c k) = some (refusals.number r)
+number_of (Number r) = some (refusals.number r)

@@ -9,9 +9,10 @@ use allocation::{Taken, Was};
 use generators::Generators;
 use instrument::Instrument;
 use message::Message;
+use refusals::Refusal;
 
 // The answer to a byte or a report.
-#[derive(Clone, Copy)]
+#[derive(Clone, Copy, PartialEq, Eq)]
 pub enum Answer {
     // None: the byte completed nothing that counts.
     Nothing,
@@ -19,10 +20,10 @@ pub enum Answer {
     Done,
     // A note: its channel, its key, its generator, and what that was.
     Note(u8, u8, u8, Was),
-    // A note-on without a generator: number 10 or 11, its channel and its key.
-    NoNote(u8, u8, u8),
-    // Any other number.
-    Number(u8),
+    // A note-on without a generator: why, its channel and its key.
+    NoNote(Refusal, u8, u8),
+    // Anything else that is refused.
+    Number(Refusal),
 }
 
 // An answer, and the record without its parser after it.
@@ -40,50 +41,46 @@ pub struct Sounded {
 }
 
 impl Reply {
-    pub fn new(answer: Answer, i: Instrument) -> Self
-        ensures { result ≡ replied answer i }
+    pub fn new(answer: Answer, instrument: Instrument) -> Self
+        ensures { result ≡ replied answer instrument }
     {
-        Reply {
-            answer: answer,
-            instrument: i,
-        }
+        Reply { answer, instrument }
     }
 }
 
-fn note_answer(taken: Taken, channel: u8, key: u8) -> Answer
+fn note_answer(taken: Result<Taken, Refusal>, channel: u8, key: u8) -> Answer
     ensures { result ≡ reply_of taken channel key }
 {
     match taken {
-        Taken::Took(g, was) => Answer::Note(channel, key, g, was),
-        Taken::Refused(number) => Answer::NoNote(number, channel, key),
+        Ok(Taken { generator, was }) => Answer::Note(channel, key, generator, was),
+        Err(refusal) => Answer::NoNote(refusal, channel, key),
     }
 }
 
 // A note-on with a velocity above 0. It changes the generators alone, so that a caller can leave the rest of the record
 // where it is.
+#[tactic(auto, unfolding(crate::specs::Playing::play_note_on))]
 pub fn sound(i: Instrument, channel: u8, key: u8) -> Sounded
     ensures { result ≡ sounded_of (play_note_on i channel key) }
 {
     let rhythm = i.is_rhythm(channel);
     let a = allocation::note_on(i.generators, i.table, i.polyphony, rhythm, channel, key);
-    let taken = a.taken;
-    let after = a.generators;
     Sounded {
-        answer: note_answer(taken, channel, key),
-        generators: after,
+        answer: note_answer(a.taken, channel, key),
+        generators: a.generators,
     }
 }
 
+#[tactic(auto, unfolding(crate::specs::Playing::play_note_on))]
 fn note_on(i: Instrument, channel: u8, key: u8) -> Reply
     ensures { result ≡ play_note_on i channel key }
 {
     let s = sound(i, channel, key);
-    let answer = s.answer;
-    let after = s.generators;
-    Reply::new(answer, i.with_generators(after))
+    Reply::new(s.answer, i.with_generators(s.generators))
 }
 
 // A complete channel message.
+#[tactic(auto, unfolding(crate::specs::Playing::played))]
 pub fn play(i: Instrument, m: Message) -> Reply
     ensures { result ≡ played i m }
 {
