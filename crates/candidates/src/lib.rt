@@ -3,11 +3,11 @@
 #![tactic(auto)]
 
 ghost use Rattle.std.specs.Prelude.{◌≡◌, not, ◌≤◌, eqb, get_or};
-ghost use Rattle.loops.specs.Cases.{bit};
+ghost use Rattle.loops.specs.Cases.{bit, given};
 ghost use Rattle.loops.specs.Passes.{total, first_of, marks_of};
 ghost use Rattle.ages.specs.Ages.{oldest_first};
 ghost use Rattle.generators.specs.Generators.{generator};
-ghost use Rattle.candidates.specs.Candidates.{found, lowest_idle, wanted, oldest, stolen_first, busy_count};
+ghost use Rattle.candidates.specs.Candidates.{lowest_idle, wanted, oldest, stolen_first, busy_count};
 
 use ages::Ages;
 use generators::Generators;
@@ -41,13 +41,12 @@ fn how_many(state: [u8; 64], channel: [u8; 64], want: Want) -> u8
     ensures { (result ≡ total (λ g. bit (wanted want (generator (get_or state g 0) (get_or channel g 0) 0))) 64)
         × (result ≤ 64) }
 {
-    let mut n: u8 = 0;
-    let mut i: usize = 0;
-    while i < 64 {
-        n = n + loops::one(is_wanted(want, state[i], channel[i]));
-        i += 1;
-    }
-    n
+    let wanted = state
+        .iter()
+        .zip(channel.iter())
+        .filter(|(s, c)| is_wanted(want, **s, **c))
+        .count();
+    wanted as u8
 }
 
 // A mark for each generator that is wanted.
@@ -55,47 +54,28 @@ fn marks(state: [u8; 64], channel: [u8; 64], want: Want) -> [u8; 256]
     ensures { result ≡ marks_of (λ g. wanted want (generator (get_or state g 0) (get_or channel g 0) 0)) }
 {
     let mut out = [0u8; 256];
-    let mut i: usize = 0;
-    while i < 64 {
-        out[i] = loops::one(is_wanted(want, state[i], channel[i]));
-        i += 1;
+    for i in 0..64 {
+        out[i] = u8::from(is_wanted(want, state[i], channel[i]));
     }
     out
 }
 
 // The oldest generator with a mark.
 fn first_marked(order: Ages, marks: [u8; 256]) -> Option<u8>
-    ensures { result ≡ found (first_of (λ g. not (eqb (get_or marks g 0) 0)) (oldest_first order)) }
+    ensures { result ≡ given (first_of (λ g. not (eqb (get_or marks g 0) 0)) (oldest_first order)) }
 {
-    let numbers = order.generator;
-    let n = loops::at_most(64, order.count) as usize;
-    let mut i: usize = 0;
-    while i < n {
-        let g = numbers[i];
-        let mark = loops::place(g);
-        if marks[mark] != 0 {
-            return Some(g);
-        }
-        i += 1;
-    }
-    None
+    let n = usize::from(order.count.min(64));
+    order.generator[..n]
+        .iter()
+        .copied()
+        .find(|g| marks[usize::from(*g)] != 0)
 }
 
 // Step 4 of a note-on: the idle generator of lowest number among the first P.
 pub fn lowest_idle(generators: Generators, polyphony: u8) -> Option<u8>
     ensures { result ≡ lowest_idle generators polyphony }
 {
-    let state = generators.state;
-    let n = loops::at_most(64, polyphony);
-    let mut g: u8 = 0;
-    while g < n {
-        let i = g as usize;
-        if state[i] == generators::IDLE {
-            return Some(g);
-        }
-        g += 1;
-    }
-    None
+    (0..polyphony.min(64)).find(|g| generators.state[usize::from(*g)] == generators::IDLE)
 }
 
 // The oldest generator of those wanted. Mostly there is none: the order of age is gone through only where there is one.
@@ -107,8 +87,7 @@ pub fn oldest(generators: Generators, want: Want) -> Option<u8>
     if how_many(state, channel, want) == 0 {
         return None;
     }
-    let order = generators.ages;
-    first_marked(order, marks(state, channel, want))
+    first_marked(generators.ages, marks(state, channel, want))
 }
 
 // Which of a channel's busy generators are stolen first: a key that is still down is heard to break off, and what only
@@ -116,10 +95,8 @@ pub fn oldest(generators: Generators, want: Want) -> Option<u8>
 pub fn stolen_first(generators: Generators, channel: u8) -> Want
     ensures { result ≡ stolen_first generators channel }
 {
-    let state = generators.state;
-    let channels = generators.channel;
     let pedal = Want::SustainedOn(channel);
-    if how_many(state, channels, pedal) == 0 {
+    if how_many(generators.state, generators.channel, pedal) == 0 {
         return Want::HeldOn(channel);
     }
     pedal
@@ -129,7 +106,5 @@ pub fn stolen_first(generators: Generators, channel: u8) -> Want
 pub fn busy_count(generators: Generators, channel: u8) -> u8
     ensures { (result ≡ busy_count generators channel) × (result ≤ 64) }
 {
-    let state = generators.state;
-    let channels = generators.channel;
-    how_many(state, channels, Want::BusyOn(channel))
+    how_many(generators.state, generators.channel, Want::BusyOn(channel))
 }

@@ -1,49 +1,32 @@
--- `candidates::first_marked` meets its contract. Invariant: the first generator with a mark in the order from i on is
--- the first of all.
+-- `candidates::first_marked` meets its contract: what `find` finds is the first with a mark.
 -- Assumes nothing.
-use mathlib.Core.Path.{refl, ap}
-use mathlib.Core.Bool.{not}
-use native.Mathlib.Omega.{arith}
-use borrow.Author.Tests.{eq-eqb, ne_eqb}
+use Rattle.std.proofs.Common.{rules, ◌≡◌, ℕ, List, sym, ap, ◌∙◌, not, eqb, get_or, take}
+use Rattle.std.specs.Prelude.{Bool, find, min}
+use Rattle.std.proofs.lemmas.Iterator.{YieldsList-from_slice}
+use Rattle.std.proofs.lemmas.Iterator.Adapters.{option_map_id}
+use Rattle.std.proofs.lemmas.Iterator.Consumers.{YieldsList-from_copied}
+use Rattle.std.proofs.lemmas.Iterator.Search.{find_from_yields_List}
+use borrow.Author.Tests.{tests}
+use Rattle.loops.specs.Cases.{given}
+use Rattle.loops.specs.Passes.{first_of}
 use Rattle.loops.proofs.Padded.{take-at_most}
-use Rattle.loops.proofs.Search.{part_yes, part_no, part_end}
+use Rattle.loops.proofs.Words.{find_std}
 use Rattle.ages.proofs.Sizes.{generator_64}
-use Rattle.candidates.specs.Candidates.{found}
-use Rattle.candidates.proofs.first_marked.Invariants.{has-mark}
 use Rattle.candidates.proofs.first_marked.Goals as goal
 
-pub loop-i-init : goal.loop-i-init
-loop-i-init c =
-    (omega arith, c.at_most-n.ensures.1, generator_64 c.args.order c.well_formed.0, refl)
-
-pub bounds-marks-mark : goal.bounds-marks-mark
-bounds-marks-mark c = c.place-mark.ensures.1
-
-pub returns-then-marks-mark-ne0 : goal.returns-then-marks-mark-ne0
-returns-then-marks-mark-ne0 c =
-    let a = c.args in
-    let m = c.at_most-n in
-    let t = rw c.place-mark.ensures.0 at (ap not (ne_eqb _ _ c.if-marks-mark-ne0.true)) in
-    rw (← (take-at_most 64 a.order.count a.order.generator c.loop-i.invariant.2), ← m.ensures.0)
-    (ap found (part_yes (has-mark a.marks) 0 a.order.generator m.result
-    (omega arith) c.loop-i.i _ (omega arith) c.loop-i.invariant.3 t))
-
-pub loop-i-preserved : goal.loop-i-preserved
-loop-i-preserved c =
-    let a = c.args in
-    let m = c.at_most-n in
-    let t = rw c.place-mark.ensures.0 at (ap not (eq-eqb _ _ c.if-marks-mark-ne0.false)) in (
-      omega arith,
-      c.loop-i.invariant.1,
-      c.loop-i.invariant.2,
-      part_no (has-mark a.marks) 0 a.order.generator m.result
-          (omega arith) c.loop-i.i _ (omega arith) c.loop-i.invariant.3 t,
-    )
+abbrev has-mark : List ℕ → ℕ → Bool
+has-mark marks g = not (eqb (get_or marks g 0) 0)
 
 pub returns : goal.returns
 returns c =
     let a = c.args in
-    let m = c.at_most-n in
-    rw (← (take-at_most 64 a.order.count a.order.generator c.loop-i.invariant.2), ← m.ensures.0)
-    (ap found (part_end (has-mark a.marks) 0 a.order.generator m.result
-    (omega arith) c.loop-i.i _ (omega arith) c.loop-i.invariant.3))
+    let order = a.order in
+    let p = has-mark a.marks in
+    let e : c.find.result ≡ find p (take (min order.count 64) order.generator) =
+    sym (option_map_id c.find.result) ∙ find_from_yields_List p _ _ c.find.result c.find.ensures.ran
+    (YieldsList-from_copied (YieldsList-from_slice (take (min order.count 64) order.generator) cc))
+    (λ x b q k. search (rules, tests)) in
+    e
+    ∙ find_std p _
+    ∙ ap (λ (l : List ℕ). given (first_of p l))
+    (take-at_most 64 order.count order.generator (generator_64 order c.well_formed.0))

@@ -1,38 +1,29 @@
--- `candidates::lowest_idle` meets its contract. Invariant: the first idle generator from g on, below the smaller of 64
--- and p, is the first of all.
+-- `candidates::lowest_idle` meets its contract: what `find` finds among the first P numbers is the first idle one.
 -- Assumes nothing.
-use mathlib.Core.Path.{refl, ap}
-use native.Mathlib.Omega.{arith}
-use borrow.Author.Tests.{eq-eqb, ne_eqb}
-use Rattle.candidates.specs.Candidates.{found, lowest_idle}
-use Rattle.candidates.proofs.Scans.{number_yes, number_no, number_end}
-use Rattle.candidates.proofs.lowest_idle.Invariants.{idle_in}
+use Rattle.std.proofs.Common.{rules, arith, ◌≡◌, ℕ, List, Bool, ap, sym, ◌∙◌, eqb, get_or}
+use Rattle.std.specs.Prelude.{find, min}
+use Rattle.std.specs.List.{range_with_len}
+use Rattle.std.proofs.lemmas.Iterator.{YieldsList-from_range}
+use Rattle.std.proofs.lemmas.Iterator.Adapters.{option_map_id}
+use Rattle.std.proofs.lemmas.Iterator.Search.{find_from_yields_List}
+use borrow.Author.Tests.{tests}
+use Rattle.loops.specs.Cases.{given}
+use Rattle.loops.specs.Passes.{first_of}
+use Rattle.loops.proofs.Words.{find_std}
+use Rattle.candidates.specs.Candidates.{lowest_idle}
+use Rattle.candidates.proofs.Scans.{numbers-range}
 use Rattle.candidates.proofs.lowest_idle.Goals as goal
 
-pub loop-g-init : goal.loop-g-init
-loop-g-init c = (omega arith, c.at_most-n.ensures.1, refl)
-
-pub returns-then-state-i-eq-IDLE : goal.returns-then-state-i-eq-IDLE
-unfolding lowest_idle
-returns-then-state-i-eq-IDLE c =
-    let st = c.args.generators.state in
-    let m = c.at_most-n in
-    rw (← m.ensures.0) (ap found (number_yes (idle_in st) m.result c.loop-g.g _
-    c.loop-g-test.true c.loop-g.invariant.2 (eq-eqb _ _ c.if-state-i-eq-IDLE.true)))
-
-pub loop-g-preserved : goal.loop-g-preserved
-loop-g-preserved c =
-    let st = c.args.generators.state in (
-      omega arith,
-      c.loop-g.invariant.1,
-      number_no (idle_in st) c.at_most-n.result c.loop-g.g _
-          c.loop-g-test.true c.loop-g.invariant.2 (ne_eqb _ _ c.if-state-i-eq-IDLE.false),
-    )
+abbrev idle_in : List ℕ → ℕ → Bool
+idle_in state g = eqb (get_or state g 0) 0
 
 pub returns : goal.returns
 unfolding lowest_idle
 returns c =
     let st = c.args.generators.state in
-    let m = c.at_most-n in
-    rw (← m.ensures.0)
-    (ap found (number_end (idle_in st) m.result c.loop-g.g _ c.loop-g-test.false c.loop-g.invariant.2))
+    let n = min c.args.polyphony 64 in
+    let e : c.find.result ≡ find (idle_in st) (range_with_len 0 n) =
+    sym (option_map_id c.find.result) ∙ find_from_yields_List (idle_in st) _ _ c.find.result c.find.ensures.ran
+    (YieldsList-from_range 0 n n (cc) (omega arith))
+    (λ x b q k. search (rules, tests)) in
+    e ∙ find_std (idle_in st) _ ∙ ap (λ (l : List ℕ). given (first_of (idle_in st) l)) (sym (numbers-range n))

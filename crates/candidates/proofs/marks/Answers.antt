@@ -14,17 +14,16 @@ use Rattle.candidates.proofs.marks.Goals as goal
 
 pub loop-i-init : goal.loop-i-init
 unfolding up_to
-loop-i-init c = (omega arith, c.well_formed.0.1.0.1, refl)
+loop-i-init c = (c.well_formed.0.1.0.1, refl)
 
 pub loop-i-preserved : goal.loop-i-preserved
 loop-i-preserved c =
     let l = c.loop-i in
     let a = c.args in
-    let x = c.one.ensures.0 ∙ ap bit c.is_wanted.ensures in (
-      omega arith,
-      l.invariant.1,
+    let x = c.from.ensures ∙ ap bit c.is_wanted.ensures in (
+      l.invariant.0,
       fill_next (λ (g : ℕ). bit (wanted_at a.want a.state a.channel g)) 0
-          (replicate 256 0) l.out l.i _ (room l.i (omega arith)) l.invariant.2 x,
+          (replicate 256 0) l.out l.i _ (room l.i (omega arith)) l.invariant.1 x,
     )
 
 pub returns : goal.returns
@@ -33,4 +32,4 @@ returns c =
     let a = c.args in
     let e : l.i ≡ 64 = omega arith in
     marks_end (wanted_at a.want a.state a.channel) 64
-    (wanted_none a.want a.state a.channel l.invariant.1) 192 refl l.out (rw e at l.invariant.2)
+    (wanted_none a.want a.state a.channel l.invariant.0) 192 refl l.out (rw e at l.invariant.1)

@@ -1,7 +1,6 @@
 -- `candidates::marks` meets its contract. Invariant: the first i marks are those of the rule, the others 0. From
 -- 64 on no generator is wanted.
 -- Assumes nothing.
-use Prim.Native.Nat.{◌≤◌, ◌-◌}
 use mathlib.Core.Path.{◌≡◌}
 use mathlib.Core.List.{◌++◌}
 use lib.ListN.{length, drop, replicate}
@@ -11,8 +10,5 @@ use Rattle.candidates.proofs.Wanted.{wanted_at}
 use Rattle.candidates.proofs.marks.Given as goal
 
 abbrev pub invariant-loop-i : goal.invariant-loop-i
-invariant-loop-i l = (l.i ≤ 64) × (length l.state ≡ 64)
+invariant-loop-i l = (length l.state ≡ 64)
     × (l.out ≡ up_to (λ g. bit (wanted_at l.want l.state l.channel g)) l.i ++ drop l.i (replicate 256 0))
-
-abbrev pub decreases-loop-i : goal.decreases-loop-i
-decreases-loop-i l = 64 - l.i
