@@ -1,12 +1,12 @@
 -- Step 5 of a note-on: the channel to steal from, and the generator that is stolen.
 use Rattle.std.specs.Prelude.{ℕ, ◌+◌, List, [], ◌∷◌, eqb, ltb, if◌then◌else◌, Option, Some, None}
 use Rattle.std.proofs.Math.Option as maybe
-use Rattle.loops.specs.Cases.{bit}
+use Rattle.loops.specs.Cases.{bit, given}
 use Rattle.table.specs.declared.Entry.{Entry}
 use Rattle.table.specs.declared.Table.{Table}
 use Rattle.shares.specs.Shares.{shares}
 use Rattle.generators.specs.declared.Generators.{Generators}
-use Rattle.candidates.specs.Candidates.{found, oldest, stolen_first, busy_count}
+use Rattle.candidates.specs.Candidates.{oldest, stolen_first, busy_count}
 
 -- R5.7: the busy generators of channel c, with the new note, which is one of channel new
 abbrev pub counted : Generators → ℕ → ℕ → ℕ
@@ -23,7 +23,7 @@ over_share n [] = maybe.none
 over_share n (e ∷ l) = otherwise (over_share n l) (if ltb e.value (n e.channel) then maybe.some e.channel else maybe.none)
 
 unfoldable pub steal_from : Generators → Table → ℕ → ℕ → Option ℕ
-steal_from s t p new = found (over_share (counted s new) (shares p t))
+steal_from s t p new = given (over_share (counted s new) (shares p t))
 
 -- R5.9: its oldest sustained generator, and its oldest held one where it has none sustained; R5.10: there may be none
 abbrev pub loses : Generators → Option ℕ → Option ℕ

@@ -8,7 +8,7 @@ use Rattle.loops.proofs.Padded.{take-at_most}
 use Rattle.shares.specs.Shares.{shares_from}
 use Rattle.table.proofs.Sizes.{entries_16}
 use Rattle.stealing.specs.Stealing.{counted, over_share, steal_from}
-use Rattle.candidates.specs.Candidates.{found}
+use Rattle.loops.specs.Cases.{given}
 use Rattle.stealing.proofs.Backward.{over_yes, over_no}
 use Rattle.stealing.proofs.steal_from.Goals as goal
 
@@ -28,7 +28,7 @@ returns-then-is_over c =
     let t = rw (c.if_else-before.ensures, c.less.ensures)
     at (sym c.is_over.ensures ∙ c.if-is_over.true) in
     rw (← (take-at_most 16 a.table.count a.table.entries c.loop-i.invariant.1), ← m.ensures.0)
-    (ap found (over_yes a.polyphony (counted a.generators a.channel)
+    (ap given (over_yes a.polyphony (counted a.generators a.channel)
     a.table.entries c.loop-i.i h (omega arith) _ c.loop-i.invariant.2 t))
 
 pub loop-i-preserved : goal.loop-i-preserved
@@ -50,4 +50,4 @@ returns c =
     let m = c.at_most-i in
     let e : c.loop-i.i ≡ 0 = omega arith in
     rw (← (take-at_most 16 a.table.count a.table.entries c.loop-i.invariant.1), ← m.ensures.0)
-    (ap found (rw e at c.loop-i.invariant.2))
+    (ap given (rw e at c.loop-i.invariant.2))
