@@ -6,441 +6,350 @@
 
 ghost use Rattle.std.specs.Prelude.{◌≤◌};
 
-use arranging::Written;
-use console::{Input, Output};
 use fields::Line;
 use listed::Lister;
 use log_lines::Reading;
 use song::SongAnswer;
 use song_lines::Request;
+use std::ops::ControlFlow;
 
+// Reading or writing failed, or what was read is refused, which is told by the status.
 #[derive(Clone, Copy)]
-enum Program {
-    Listing,
-    Pitches,
-    HardestSong,
-    Arrange,
-    Page,
-}
+struct Failed;
 
-// What is kept from read to read: which program it is, and what each of them keeps.
-#[derive(Clone, Copy)]
-struct Kept {
-    program: Program,
-    lister: Lister,
-    line: Line,
-    reading: Reading,
-    // A request of a song was refused or malformed.
-    refused: bool,
-}
+// A program: what it keeps from read to read, and what it writes. The page is its buffer for that.
+trait Filter: Copy {
+    // Its name, which stands before an error.
+    const NAME: &'static [u8];
 
-// After a turn: whether to go on, whether reading or writing failed or, at the end, a request was refused, and what is
-// kept.
-#[derive(Clone, Copy)]
-struct Turn {
-    more: bool,
-    failed: bool,
-    kept: Kept,
-}
-
-// What became of a request of a song: whether it was refused or malformed, and whether writing failed.
-#[derive(Clone, Copy)]
-struct Outcome {
-    refused: bool,
-    failed: bool,
-}
-
-// A byte lists no more than 128 bytes, and is answered by no more than 16, so the page has room for what a read of
-// 1,024 calls for. It has room for the longest song too.
-fn empty_page() -> [u8; 131072] {
-    [0u8; 131072]
-}
-
-fn begin(program: Program) -> Kept {
-    let lister = listed::begin();
-    let line = fields::begin();
-    let reading = log_lines::begin();
-    Kept {
-        program: program,
-        lister: lister,
-        line: line,
-        reading: reading,
-        refused: false,
+    // Before the first read.
+    fn begin(&mut self, rt: &HostRuntime, page: &mut [u8]) -> Result<(), Failed> {
+        Ok(())
     }
+
+    // The bytes of a read, and whether more are to be read.
+    fn take(
+        &mut self,
+        rt: &HostRuntime,
+        page: &mut [u8],
+        bytes: &[u8],
+    ) -> Result<ControlFlow<()>, Failed>;
+
+    // What the end of the input adds.
+    fn end(&mut self, rt: &HostRuntime, page: &mut [u8]) -> Result<(), Failed>;
 }
 
-// Tells an error, behind the program's name, and answers that there was one.
-fn tell(rt: &HostRuntime, program: Program, what: &[u8]) -> bool {
-    match program {
-        Program::Listing => {
-            console::fail(rt, b"listing");
-        }
-        Program::Pitches => {
-            console::fail(rt, b"pitches");
-        }
-        Program::HardestSong => {
-            console::fail(rt, b"hardest_song");
-        }
-        Program::Arrange => {
-            console::fail(rt, b"arrange");
-        }
-        Program::Page => {
-            console::fail(rt, b"page");
-        }
-    }
+// Tells an error, behind the program's name.
+fn tell(rt: &HostRuntime, name: &[u8], what: &[u8]) -> Failed {
+    console::fail(rt, name);
     console::fail(rt, what);
-    true
+    Failed
 }
 
-// Writes what is answered, and answers whether that failed.
-fn write_out(rt: &HostRuntime, program: Program, page: &[u8], used: usize) -> bool {
-    let o = console::write(rt, page, used);
-    match o {
-        Output::Whole => false,
-        Output::Cut(_) => tell(rt, program, b": standard output takes no more\n"),
-    }
-}
-
-// An input whose start was refused is over.
-fn is_over(l: Lister) -> bool {
-    let awaits = l.awaits;
-    listed::is_refused(awaits)
-}
-
-// Writes, and keeps this; after that there may be no more to read.
-fn written(rt: &HostRuntime, k: Kept, page: &[u8], used: usize, over: bool) -> Turn {
-    let program = k.program;
-    let failed = write_out(rt, program, page, used);
-    Turn {
-        more: !(failed | over),
-        failed: failed,
-        kept: k,
-    }
-}
-
-fn list(rt: &HostRuntime, k: Kept, page: &mut [u8], bytes: &[u8]) -> Turn {
-    let s = listed::all(k.lister, page, bytes);
-    let lister = s.lister;
-    let mut next = k;
-    next.lister = lister;
-    written(rt, next, page, s.used, is_over(lister))
-}
-
-fn pitch(rt: &HostRuntime, k: Kept, page: &mut [u8], bytes: &[u8]) -> Turn {
-    let s = pitch_lines::all(k.line, page, bytes);
-    let line = s.line;
-    let mut next = k;
-    next.line = line;
-    written(rt, next, page, s.used, false)
-}
-
-fn is_song(a: SongAnswer) -> bool {
-    match a {
-        SongAnswer::Thefts(_) => true,
-        SongAnswer::WrongPolyphony => false,
-        SongAnswer::TooLong => false,
-    }
+// Writes what is answered.
+fn write_out(rt: &HostRuntime, name: &[u8], page: &[u8], used: usize) -> Result<(), Failed> {
+    console::write(rt, page, used).map_err(|_| tell(rt, name, b": standard output takes no more\n"))
 }
 
 // Writes the line of an answer to standard error. If that fails there is no place to tell it, and the status alone says
 // so.
-fn answered(rt: &HostRuntime, line: &[u8], used: usize, refused: bool) -> Outcome {
-    let o = console::write_error(rt, line, used);
-    match o {
-        Output::Whole => Outcome {
-            refused: refused,
-            failed: false,
-        },
-        Output::Cut(_) => Outcome {
-            refused: refused,
-            failed: true,
-        },
-    }
+fn write_answer(rt: &HostRuntime, line: &[u8], used: usize) -> Result<(), Failed> {
+    console::write_error(rt, line, used).map_err(|_| Failed)
 }
 
-// A song is written whole before its answer says so. The page is the song's buffer.
-fn give_song(rt: &HostRuntime, page: &mut [u8], polyphony: u8, n: usize) -> Outcome {
-    let w = song_lines::put_song(page, polyphony, n);
-    let a = w.answer;
-    if write_out(rt, Program::HardestSong, page, w.used) {
-        return Outcome {
-            refused: false,
-            failed: true,
-        };
-    }
-    let mut line = [0u8; 16];
-    let used = song_lines::put_answer(&mut line, a);
-    answered(rt, &line, used, !is_song(a))
-}
+// ---- the loop
 
-fn malformed(rt: &HostRuntime) -> Outcome {
-    let mut line = [0u8; 16];
-    let used = song_lines::put_malformed(&mut line);
-    answered(rt, &line, used, true)
-}
-
-fn answer(rt: &HostRuntime, page: &mut [u8], r: Request) -> Outcome {
-    match r {
-        Request::Nothing => Outcome {
-            refused: false,
-            failed: false,
-        },
-        Request::Malformed => malformed(rt),
-        Request::Song(polyphony, n) => give_song(rt, page, polyphony, n),
-    }
-}
-
-// Each request is answered as soon as its line has ended.
-fn answer_all(rt: &HostRuntime, k: Kept, page: &mut [u8], bytes: &[u8]) -> Turn {
-    let mut line = k.line;
-    let mut refused = k.refused;
-    let mut failed = false;
-    let mut i = 0;
-    while (i < bytes.len()) & !failed {
-        let s = song_lines::next(line, bytes[i]);
-        let next = s.line;
-        let request = s.request;
-        let o = answer(rt, page, request);
-        line = next;
-        refused = refused | o.refused;
-        failed = o.failed;
-        i += 1;
-    }
-    let mut kept = k;
-    kept.line = line;
-    kept.refused = refused;
-    Turn {
-        more: !failed,
-        failed: failed,
-        kept: kept,
-    }
-}
-
-// A request that was refused, at any time, is told by the status.
-fn end_songs(rt: &HostRuntime, k: Kept, page: &mut [u8]) -> Turn {
-    let request = song_lines::end(k.line);
-    let o = answer(rt, page, request);
-    Turn {
-        more: false,
-        failed: o.failed | o.refused | k.refused,
-        kept: k,
-    }
-}
-
-// The message is written whole before its line says so.
-fn message_outcome(rt: &HostRuntime, page: &mut [u8], w: Written) -> Outcome {
-    let used = log_lines::put_message(page, w);
-    if write_out(rt, Program::Arrange, page, used) {
-        return Outcome {
-            refused: false,
-            failed: true,
-        };
-    }
-    let mut line = [0u8; 160];
-    let length = log_lines::put_written(&mut line, 0, w);
-    answered(rt, &line, length, w.number != 0)
-}
-
-// The answer to a log ends the program, and a number is told by the status.
-fn give_message(rt: &HostRuntime, k: Kept, page: &mut [u8]) -> Turn {
-    let w = log_lines::end(k.reading);
-    let o = message_outcome(rt, page, w);
-    Turn {
-        more: false,
-        failed: o.failed | o.refused,
-        kept: k,
-    }
-}
-
-// Where a number has fallen the answer is known, whatever comes behind it.
-fn hear(rt: &HostRuntime, k: Kept, page: &mut [u8], bytes: &[u8]) -> Turn {
-    let reading = log_lines::all(k.reading, bytes);
-    let mut next = k;
-    next.reading = reading;
-    if log_lines::is_known(reading) {
-        return give_message(rt, next, page);
-    }
-    Turn {
-        more: true,
-        failed: false,
-        kept: next,
-    }
-}
-
-// The answer to an input ends the program, and a refused start is told by the status.
-fn give_page(rt: &HostRuntime, k: Kept, page: &mut [u8]) -> Turn {
-    let lister = page_lines::end(k.lister);
-    let used = page_lines::put_answer(page, lister);
-    let failed = write_out(rt, Program::Page, page, used);
-    Turn {
-        more: false,
-        failed: failed | is_over(lister),
-        kept: k,
-    }
-}
-
-// Nothing is written before the input's end, unless its start was refused.
-fn play(rt: &HostRuntime, k: Kept, page: &mut [u8], bytes: &[u8]) -> Turn {
-    let lister = page_lines::all(k.lister, bytes);
-    let mut next = k;
-    next.lister = lister;
-    if is_over(lister) {
-        return give_page(rt, next, page);
-    }
-    Turn {
-        more: true,
-        failed: false,
-        kept: next,
-    }
-}
-
-fn take(rt: &HostRuntime, k: Kept, page: &mut [u8], bytes: &[u8]) -> Turn {
-    let program = k.program;
-    match program {
-        Program::Listing => list(rt, k, page, bytes),
-        Program::Pitches => pitch(rt, k, page, bytes),
-        Program::HardestSong => answer_all(rt, k, page, bytes),
-        Program::Arrange => hear(rt, k, page, bytes),
-        Program::Page => play(rt, k, page, bytes),
-    }
-}
-
-fn end_list(rt: &HostRuntime, k: Kept, page: &mut [u8]) -> Turn {
-    let used = listed::end(k.lister, page);
-    written(rt, k, page, used, true)
-}
-
-fn end_pitch(rt: &HostRuntime, k: Kept, page: &mut [u8]) -> Turn {
-    let used = pitch_lines::end(k.line, page);
-    written(rt, k, page, used, true)
-}
-
-// What the end of the input adds.
-fn end(rt: &HostRuntime, k: Kept, page: &mut [u8]) -> Turn {
-    let program = k.program;
-    match program {
-        Program::Listing => end_list(rt, k, page),
-        Program::Pitches => end_pitch(rt, k, page),
-        Program::HardestSong => end_songs(rt, k, page),
-        Program::Arrange => give_message(rt, k, page),
-        Program::Page => give_page(rt, k, page),
-    }
-}
-
-// Nothing is answered for what could not be read: the input did not end.
-fn give_up(rt: &HostRuntime, k: Kept) -> Turn {
-    let program = k.program;
-    let failed = tell(rt, program, b": standard input can't be read\n");
-    Turn {
-        more: false,
-        failed: failed,
-        kept: k,
-    }
-}
-
-fn read_once(rt: &HostRuntime, k: Kept, page: &mut [u8]) -> Turn {
-    let mut input = [0u8; 1024];
-    let got = console::read(rt, &mut input);
-    match got {
-        Input::Bytes(n) => take(rt, k, page, &input[..n]),
-        Input::End => end(rt, k, page),
-        Input::Unreadable => give_up(rt, k),
-    }
-}
-
-// A proved loop has to end, so the turns are counted down from a number that no input uses up. Answers whether the
-// program failed.
-fn read_all(rt: &HostRuntime, k: Kept, page: &mut [u8]) -> bool {
-    let mut turns = u64::MAX;
-    let mut kept = k;
-    let mut more = true;
-    let mut failed = false;
-    while more {
-        if turns == 0 {
-            return true;
+// A proved loop has to end, so the reads are counted, up to a number that no input uses up. Nothing is answered for what
+// could not be read: the input did not end.
+fn read_all<F: Filter>(rt: &HostRuntime, filter: &mut F, page: &mut [u8]) -> Result<(), Failed> {
+    filter.begin(rt, page)?;
+    for _ in 0..u64::MAX {
+        let mut input = [0u8; 1024];
+        let n = console::read(rt, &mut input).map_err(|_| tell(
+            rt,
+            F::NAME,
+            b": standard input can't be read\n",
+        ))?;
+        if n == 0 {
+            return filter.end(rt, page);
         }
-        turns -= 1;
-        let t = read_once(rt, kept, page);
-        more = t.more;
-        failed = t.failed;
-        let next = t.kept;
-        kept = next;
+        if filter.take(rt, page, &input[..n])?.is_break() {
+            return Ok(());
+        }
     }
-    failed
+    Err(Failed)
 }
 
-fn list_all(rt: &HostRuntime, page: &mut [u8]) -> bool {
-    let used = listed::put_heading(page);
-    if write_out(rt, Program::Listing, page, used) {
-        return true;
-    }
-    read_all(rt, begin(Program::Listing), page)
-}
-
-fn pitch_all(rt: &HostRuntime, page: &mut [u8]) -> bool {
-    read_all(rt, begin(Program::Pitches), page)
-}
-
-fn song_all(rt: &HostRuntime, page: &mut [u8]) -> bool {
-    read_all(rt, begin(Program::HardestSong), page)
-}
-
-fn arrange_all(rt: &HostRuntime, page: &mut [u8]) -> bool {
-    read_all(rt, begin(Program::Arrange), page)
-}
-
-fn page_all(rt: &HostRuntime, page: &mut [u8]) -> bool {
-    read_all(rt, begin(Program::Page), page)
+// A byte lists no more than 128 bytes, and is answered by no more than 16, so the page has room for what a read of 1,024
+// calls for. It has room for the longest song too.
+fn run<F: Filter>(rt: &HostRuntime, mut filter: F) -> Result<(), Failed> {
+    let mut page = [0u8; 131072];
+    read_all(rt, &mut filter, &mut page)
 }
 
 // The exit status: 0, or 1 if the program failed.
-fn status(failed: bool) -> u32
+fn status(outcome: Result<(), Failed>) -> u32
     ensures { result ≤ 1 }
 {
-    if failed { 1 } else { 0 }
+    match outcome {
+        Ok(()) => 0,
+        Err(Failed) => 1,
+    }
 }
 
-// That of the listing program.
+// ---- the listing program
+
+#[derive(Clone, Copy)]
+struct Listing {
+    lister: Lister,
+}
+
+impl Filter for Listing {
+    const NAME: &'static [u8] = b"listing";
+
+    fn begin(&mut self, rt: &HostRuntime, page: &mut [u8]) -> Result<(), Failed> {
+        let used = listed::put_heading(page);
+        write_out(rt, Self::NAME, page, used)
+    }
+
+    // An input whose start was refused is over.
+    fn take(
+        &mut self,
+        rt: &HostRuntime,
+        page: &mut [u8],
+        bytes: &[u8],
+    ) -> Result<ControlFlow<()>, Failed> {
+        let s = listed::all(self.lister, page, bytes);
+        self.lister = s.lister;
+        write_out(rt, Self::NAME, page, s.used)?;
+        if listed::is_refused(self.lister.awaits) {
+            return Ok(ControlFlow::Break(()));
+        }
+        Ok(ControlFlow::Continue(()))
+    }
+
+    fn end(&mut self, rt: &HostRuntime, page: &mut [u8]) -> Result<(), Failed> {
+        let used = listed::end(self.lister, page);
+        write_out(rt, Self::NAME, page, used)
+    }
+}
+
 pub fn listing_status(rt: &HostRuntime) -> u32
     ensures { result ≤ 1 }
 {
-    let mut space = empty_page();
-    let page: &mut [u8] = &mut space;
-    status(list_all(rt, page))
+    let lister = listed::begin();
+    status(run(rt, Listing { lister }))
 }
 
-// That of the pitch filter.
+// ---- the pitch filter
+
+#[derive(Clone, Copy)]
+struct Pitches {
+    line: Line,
+}
+
+impl Filter for Pitches {
+    const NAME: &'static [u8] = b"pitches";
+
+    fn take(
+        &mut self,
+        rt: &HostRuntime,
+        page: &mut [u8],
+        bytes: &[u8],
+    ) -> Result<ControlFlow<()>, Failed> {
+        let s = pitch_lines::all(self.line, page, bytes);
+        self.line = s.line;
+        write_out(rt, Self::NAME, page, s.used)?;
+        Ok(ControlFlow::Continue(()))
+    }
+
+    fn end(&mut self, rt: &HostRuntime, page: &mut [u8]) -> Result<(), Failed> {
+        let used = pitch_lines::end(self.line, page);
+        write_out(rt, Self::NAME, page, used)
+    }
+}
+
 pub fn pitches_status(rt: &HostRuntime) -> u32
     ensures { result ≤ 1 }
 {
-    let mut space = empty_page();
-    let page: &mut [u8] = &mut space;
-    status(pitch_all(rt, page))
+    let line = fields::begin();
+    status(run(rt, Pitches { line }))
 }
 
-// That of the program that writes the hardest song: 1 too if a request was refused or malformed.
+// ---- the program that writes the hardest song
+
+#[derive(Clone, Copy)]
+struct HardestSong {
+    line: Line,
+    // A request was refused or malformed.
+    refused: bool,
+}
+
+impl HardestSong {
+    // A song is written whole before its answer says so. The page is the song's buffer.
+    fn give_song(
+        &mut self,
+        rt: &HostRuntime,
+        page: &mut [u8],
+        polyphony: u8,
+        n: usize,
+    ) -> Result<(), Failed> {
+        let w = song_lines::put_song(page, polyphony, n);
+        write_out(rt, Self::NAME, page, w.used)?;
+        self.refused |= !matches!(w.answer, SongAnswer::Thefts(_));
+        let mut line = [0u8; 16];
+        let used = song_lines::put_answer(&mut line, w.answer);
+        write_answer(rt, &line, used)
+    }
+
+    fn answer(
+        &mut self,
+        rt: &HostRuntime,
+        page: &mut [u8],
+        request: Request,
+    ) -> Result<(), Failed> {
+        match request {
+            Request::Nothing => Ok(()),
+            Request::Malformed => {
+                self.refused = true;
+                let mut line = [0u8; 16];
+                let used = song_lines::put_malformed(&mut line);
+                write_answer(rt, &line, used)
+            }
+            Request::Song(polyphony, n) => self.give_song(rt, page, polyphony, n),
+        }
+    }
+}
+
+impl Filter for HardestSong {
+    const NAME: &'static [u8] = b"hardest_song";
+
+    // Each request is answered as soon as its line has ended.
+    fn take(
+        &mut self,
+        rt: &HostRuntime,
+        page: &mut [u8],
+        bytes: &[u8],
+    ) -> Result<ControlFlow<()>, Failed> {
+        for b in bytes {
+            let s = song_lines::next(self.line, *b);
+            self.line = s.line;
+            self.answer(rt, page, s.request)?;
+        }
+        Ok(ControlFlow::Continue(()))
+    }
+
+    // A request that was refused, at any time, is told by the status.
+    fn end(&mut self, rt: &HostRuntime, page: &mut [u8]) -> Result<(), Failed> {
+        let request = song_lines::end(self.line);
+        self.answer(rt, page, request)?;
+        if self.refused {
+            return Err(Failed);
+        }
+        Ok(())
+    }
+}
+
+// 1 too if a request was refused or malformed.
 pub fn hardest_song_status(rt: &HostRuntime) -> u32
     ensures { result ≤ 1 }
 {
-    let mut space = empty_page();
-    let page: &mut [u8] = &mut space;
-    status(song_all(rt, page))
+    let songs = HardestSong {
+        line: fields::begin(),
+        refused: false,
+    };
+    status(run(rt, songs))
 }
 
-// That of the program that writes the MIP message of a log: 1 too if a number fell.
+// ---- the program that writes the MIP message of a log
+
+#[derive(Clone, Copy)]
+struct Arrange {
+    reading: Reading,
+}
+
+impl Filter for Arrange {
+    const NAME: &'static [u8] = b"arrange";
+
+    // Where a number has fallen the answer is known, whatever comes behind it.
+    fn take(
+        &mut self,
+        rt: &HostRuntime,
+        page: &mut [u8],
+        bytes: &[u8],
+    ) -> Result<ControlFlow<()>, Failed> {
+        self.reading = log_lines::all(self.reading, bytes);
+        if log_lines::is_known(self.reading) {
+            self.end(rt, page)?;
+            return Ok(ControlFlow::Break(()));
+        }
+        Ok(ControlFlow::Continue(()))
+    }
+
+    // The message is written whole before its line says so, and a number is told by the status.
+    fn end(&mut self, rt: &HostRuntime, page: &mut [u8]) -> Result<(), Failed> {
+        let w = log_lines::end(self.reading);
+        let used = log_lines::put_message(page, w);
+        write_out(rt, Self::NAME, page, used)?;
+        let mut line = [0u8; 160];
+        let length = log_lines::put_written(&mut line, 0, w);
+        write_answer(rt, &line, length)?;
+        if w.number != 0 {
+            return Err(Failed);
+        }
+        Ok(())
+    }
+}
+
+// 1 too if a number fell.
 pub fn arrange_status(rt: &HostRuntime) -> u32
     ensures { result ≤ 1 }
 {
-    let mut space = empty_page();
-    let page: &mut [u8] = &mut space;
-    status(arrange_all(rt, page))
+    let reading = log_lines::begin();
+    status(run(rt, Arrange { reading }))
 }
 
-// That of the program that writes the service page: 1 too if the start was refused.
+// ---- the program that writes the service page
+
+#[derive(Clone, Copy)]
+struct Page {
+    lister: Lister,
+}
+
+impl Filter for Page {
+    const NAME: &'static [u8] = b"page";
+
+    // Nothing is written before the input's end, unless its start was refused.
+    fn take(
+        &mut self,
+        rt: &HostRuntime,
+        page: &mut [u8],
+        bytes: &[u8],
+    ) -> Result<ControlFlow<()>, Failed> {
+        self.lister = page_lines::all(self.lister, bytes);
+        if listed::is_refused(self.lister.awaits) {
+            self.end(rt, page)?;
+            return Ok(ControlFlow::Break(()));
+        }
+        Ok(ControlFlow::Continue(()))
+    }
+
+    // A refused start is told by the status.
+    fn end(&mut self, rt: &HostRuntime, page: &mut [u8]) -> Result<(), Failed> {
+        let lister = page_lines::end(self.lister);
+        let used = page_lines::put_answer(page, lister);
+        write_out(rt, Self::NAME, page, used)?;
+        if listed::is_refused(lister.awaits) {
+            return Err(Failed);
+        }
+        Ok(())
+    }
+}
+
+// 1 too if the start was refused.
 pub fn page_status(rt: &HostRuntime) -> u32
     ensures { result ≤ 1 }
 {
-    let mut space = empty_page();
-    let page: &mut [u8] = &mut space;
-    status(page_all(rt, page))
+    let lister = listed::begin();
+    status(run(rt, Page { lister }))
 }
