@@ -1,8 +1,7 @@
 -- R14.3, R8.16: an order of the channels is all sixteen, each once.
 -- Assumes nothing.
-use Rattle.std.specs.Prelude.{ℕ, zero, suc, ◌+◌, Bool, true, false, ◌&&◌, List, eqb, length, replicate, if◌then◌else◌}
+use Rattle.std.specs.Prelude.{ℕ, zero, suc, ◌+◌, Bool, true, ◌&&◌, List, eqb, length, Option, Some, None, if◌then◌else◌}
 use Rattle.loops.specs.Passes.{count}
-use Rattle.order.specs.declared.Order.{Order}
 
 -- a test that passes at 0, 1, .. n - 1
 unfoldable pub each : (ℕ → Bool) → ℕ → Bool
@@ -17,9 +16,6 @@ times order c = count (λ x. eqb x c) order
 unfoldable pub is_order : List ℕ → Bool
 is_order order = eqb (length order) 16 && each (λ i. eqb (times order (i + 1)) 1) 16
 
--- the order that some bytes are, zeros for none
-abbrev pub no_order : Order
-no_order = record { whole = false; channels = replicate 16 0 }
-
-unfoldable pub order_of : List ℕ → Order
-order_of order = if is_order order then record { whole = true; channels = order } else no_order
+-- the order that some bytes are
+unfoldable pub order_of : List ℕ → Option (List ℕ)
+order_of order = if is_order order then Some order else None
