@@ -25,14 +25,14 @@ pub struct Instrument {
 }
 
 // The channels with the one at a place replaced; all as they were at a place that there is not.
+#[tactic(auto, unfolding(crate::specs::Instrument::replaced))]
 fn replace(channels: [Channel; 16], at: u8, c: Channel) -> [Channel; 16]
     ensures { result ≡ replaced channels at c }
 {
     let mut out = channels;
-    let place = at as usize;
-    if place < 16 {
+    let place = usize::from(at);
+    if place < out.len() {
         out[place] = c;
-        return out;
     }
     out
 }
@@ -41,8 +41,7 @@ fn replace(channels: [Channel; 16], at: u8, c: Channel) -> [Channel; 16]
 fn fresh_channels() -> [Channel; 16]
     ensures { result ≡ fresh_channels }
 {
-    let channel = Channel::fresh();
-    let mut out = [channel; 16];
+    let mut out = [Channel::fresh(); 16];
     out[9] = Channel::fresh_rhythm();
     out
 }
@@ -53,74 +52,70 @@ impl Instrument {
 
     pub const RHYTHM: u8 = 1;
 
+    #[tactic(auto, unfolding(crate::specs::Instrument::fresh))]
     pub fn fresh(polyphony: u8, id: u8) -> Self
         ensures { result ≡ fresh polyphony id }
     {
-        let table = Table::start(polyphony);
-        let channels = fresh_channels();
-        let generators = Generators::silent();
         Instrument {
-            polyphony: polyphony,
-            id: id,
-            table: table,
-            channels: channels,
+            polyphony,
+            id,
+            table: Table::start(polyphony),
+            channels: fresh_channels(),
             kind: Instrument::MELODY,
-            generators: generators,
+            generators: Generators::silent(),
         }
     }
 
     // The record of a channel; a fresh one where there is no such channel.
+    #[tactic(auto, unfolding(crate::specs::Instrument::channel_of, crate::specs::Instrument::channel_at))]
     pub fn channel_of(self, channel: u8) -> Channel
         ensures { result ≡ channel_of self channel }
     {
-        let channels = self.channels;
-        let place = loops::less(channel, 1) as usize;
-        if place < 16 {
-            return channels[place];
-        }
-        Channel::fresh()
+        self.channels
+            .get(usize::from(channel.saturating_sub(1)))
+            .copied()
+            .unwrap_or(Channel::fresh())
     }
 
     // With the record of a channel replaced by x.
+    #[tactic(auto, unfolding(crate::specs::Instrument::with_channel))]
     pub fn with_channel(self, channel: u8, x: Channel) -> Self
         ensures { result ≡ with_channel self channel x }
     {
-        let channels = self.channels;
-        let after = replace(channels, loops::less(channel, 1), x);
-        let mut next = self;
-        next.channels = after;
-        next
+        Instrument {
+            channels: replace(self.channels, channel.saturating_sub(1), x),
+            ..self
+        }
     }
 
     // With channel 11 made a rhythm channel or one of melody.
     pub fn with_kind(self, rhythm: bool) -> Self
         ensures { result ≡ with_kind self rhythm }
     {
-        let mut next = self;
-        next.kind = loops::one(rhythm);
-        next
+        Instrument {
+            kind: u8::from(rhythm),
+            ..self
+        }
     }
 
     pub fn with_generators(self, generators: Generators) -> Self
         ensures { result ≡ with_generators self generators }
     {
-        let mut next = self;
-        next.generators = generators;
-        next
+        Instrument { generators, ..self }
     }
 
     // Whether the hold pedal of a channel is down.
     pub fn pedal_down(self, channel: u8) -> bool
         ensures { result ≡ pedal_down self channel }
     {
-        let x = self.channel_of(channel);
-        64 <= x.hold
+        64 <= self.channel_of(channel).hold
     }
 
     // Whether it is a rhythm channel: its drums end by their reports, and exclude each other.
+    #[tactic(auto, unfolding(crate::specs::Instrument::is_rhythm))]
     pub fn is_rhythm(self, channel: u8) -> bool
         ensures { result ≡ is_rhythm self channel }
     {
-        (channel == 10) | ((channel == 11) & (self.kind == Instrument::RHYTHM))
+        channel == 10 || (channel == 11 && self.kind == Instrument::RHYTHM)
     }
 }

@@ -21,7 +21,7 @@ use Rattle.channels.specs.Channel as of-channel
 use Rattle.controllers.specs.Controllers as of-controllers
 use Rattle.generators.specs.Generators.{silent}
 use Rattle.instrument.specs.Instrument.{fresh, channel_at, replaced, channel_of, with_channel, is_rhythm}
-use Rattle.instrument.proofs.Elements.{any_default}
+use Rattle.std.proofs.lemmas.List.{get_or_default}
 use Rattle.other_messages.specs.OtherMessages.{notes_after, play_control, kind_set, play_program}
 use Rattle.playing.specs.Playing.{played}
 use Rattle.reports.specs.Reports.{reported}
@@ -67,7 +67,7 @@ last-channel_too d a = a.each 16 (omega arith) (omega arith)
 -- no channel is missing from the record: whatever is read for a missing one, it is not read for these
 pub no_channel-missing : (d : Device) → AllInRange d → (i : ℕ) → i < 16 → (x y : Channel)
     → get_or d.instrument.channels i x ≡ get_or d.instrument.channels i y
-no_channel-missing d a i h x y = any_default x y d.instrument.channels i (let s = a.sixteen in omega arith)
+no_channel-missing d a i h x y = get_or_default d.instrument.channels i x y (let s = a.sixteen in omega arith)
 
 -- any P and any own ID, refused or not
 pub any_start : AlwaysInRange → (p id : ℕ) (l : List Event) → AllInRange (after (started p id).device l)
