@@ -53,6 +53,7 @@ impl Channel {
 
     pub const BANK_LSB: u8 = 0;
 
+    #[tactic(auto, unfolding(crate::specs::Channel::fresh))]
     pub fn fresh() -> Self
         ensures { result ≡ fresh }
     {
@@ -74,6 +75,7 @@ impl Channel {
     }
 
     // Channel 10's: its bank is that of the drums.
+    #[tactic(auto, unfolding(crate::specs::Channel::fresh_rhythm))]
     pub fn fresh_rhythm() -> Self
         ensures { result ≡ fresh_rhythm }
     {
@@ -101,6 +103,7 @@ impl Channel {
 
     // Whether a program change makes a rhythm channel of one that was one or not: by its bank's MSB; the LSB and the
     // program have no part in it.
+    #[tactic(auto, unfolding(crate::specs::Channel::rhythm_by))]
     pub fn rhythm_by(self, was: bool) -> bool
         ensures { result ≡ rhythm_by self.bank_msb was }
     {

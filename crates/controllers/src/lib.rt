@@ -11,6 +11,7 @@ use channels::Channel;
 
 // The sensitivity after Data Entry MSB: bend sensitivity is the only registered parameter here. Its LSB, controller 38,
 // changes nothing; controller 32 is the LSB of the bank.
+#[tactic(auto, unfolding(crate::specs::Controllers::data_entry))]
 fn data_entry(channel: Channel, v: u8) -> u8
     ensures { result ≡ data_entry channel v }
 {
@@ -22,6 +23,7 @@ fn data_entry(channel: Channel, v: u8) -> u8
 }
 
 // A non-registered parameter number, 98 or 99, takes the registered one out of use.
+#[tactic(auto, unfolding(crate::specs::Controllers::stored))]
 fn store(channel: Channel, n: u8, v: u8) -> Channel
     ensures { result ≡ stored channel n v }
 {
@@ -47,6 +49,7 @@ fn store(channel: Channel, n: u8, v: u8) -> Channel
 }
 
 // Reset All Controllers keeps program, bank, volume, pan and sensitivity.
+#[tactic(auto, unfolding(crate::specs::Controllers::reset))]
 fn reset(channel: Channel) -> Channel
     ensures { result ≡ reset channel }
 {
@@ -63,6 +66,7 @@ fn reset(channel: Channel) -> Channel
 }
 
 // The channel's numbers after controller n with value v.
+#[tactic(auto, unfolding(crate::specs::Controllers::controlled))]
 pub fn control(channel: Channel, n: u8, v: u8) -> Channel
     ensures { result ≡ controlled channel n v }
 {
