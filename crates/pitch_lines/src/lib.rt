@@ -47,25 +47,26 @@ pub fn put_pitch(page: &mut [u8], at: usize, p: Pitch) -> usize
 fn put_answer(page: &mut [u8], at: usize, c: Line) -> usize
     ensures { Put page.old at (line_answer c) result page.new }
 {
-    if c.digit & (c.commas == 2) {
-        let key = c.first.min(255) as u8;
-        let sensitivity = c.previous.min(255) as u8;
-        let bend = c.last.min(65535) as u16;
-        return match pitch::pitch_of(key, sensitivity, bend) {
-            Ok(p) => {
-                let k = put(page, at, b"0");
-                put_pitch(page, k, p)
-            }
-            Err(r) => {
-                let k = put_number(page, at, u64::from(r.number()));
-                put(page, k, b",0,65536\n")
-            }
-        };
+    if !c.digit || c.commas != 2 {
+        return put(page, at, b"malformed\n");
     }
-    put(page, at, b"malformed\n")
+    let key = c.first.min(255) as u8;
+    let sensitivity = c.previous.min(255) as u8;
+    let bend = c.last.min(65535) as u16;
+    match pitch::pitch_of(key, sensitivity, bend) {
+        Ok(p) => {
+            let k = put(page, at, b"0");
+            put_pitch(page, k, p)
+        }
+        Err(r) => {
+            let k = put_number(page, at, u64::from(r.number()));
+            put(page, k, b",0,65536\n")
+        }
+    }
 }
 
 // A byte of the input.
+#[tactic(auto, using(text::proofs::Joined::nothing_put), unfolding(fields::specs::Answers::answer_by, fields::specs::Line::after))]
 fn one(c: Line, page: &mut [u8], used: &mut usize, b: u8) -> Line
     ensures { Answers page.old used.old
         (answer c b) (after c b) result used.new page.new }
@@ -95,10 +96,11 @@ pub fn all(c: Line, page: &mut [u8], bytes: &[u8]) -> Answered
 }
 
 // The end of the input: a last line without its 0AH is answered all the same, if it has a byte.
+#[tactic(auto, using(text::proofs::Joined::nothing_put), unfolding(fields::specs::Answers::end_answer_by))]
 pub fn end(c: Line, page: &mut [u8]) -> usize
     ensures { Put page.old 0 (end_answer c) result page.new }
 {
-    if !c.digit & (c.commas == 0) {
+    if !c.digit && c.commas == 0 {
         return 0;
     }
     put_answer(page, 0, c)
