@@ -12,13 +12,16 @@ use borrow.Author.Tests.{ltb-false, eqb-true, eq-eqb}
 use lib.Dec.{eqb, ltb}
 use lib.ListN.{length}
 use Rattle.loops.proofs.Tests.{impossible}
+use Rattle.std.specs.Prelude.{Ok, Err}
+use Rattle.refusals.specs.declared.Refusal.{Refusal}
+use Rattle.refusals.specs.declared.Refusal.TheVariants as refusal
 use Rattle.table.specs.declared.Entry.{Entry}
+use Rattle.table.specs.declared.Table.{Table}
 use Rattle.table.specs.Laws.{Rising, Distinct, Channels, WellFormed}
 use Rattle.table.specs.Table.{entry, entries_of, table_of, listed}
 use Rattle.table.proofs.Places.{entries_of-table}
-use Rattle.mip.specs.declared.Verdict.TheVariants.{Accepted}
 use Rattle.mip.specs.Laws.{AcceptedTable}
-use Rattle.mip.specs.Mip.{pairs, faulty, refused, judged_by, judged}
+use Rattle.mip.specs.Mip.{pairs, faulty, judged_by, judged}
 
 listed-append : (c : ℕ) (l m : List Entry) → listed c (l ++ m) ≡ listed c l || listed c m
 unfolding listed
@@ -53,7 +56,7 @@ passed before v e l h = go (ltb 16 e.channel) refl (listed e.channel before) ref
   where
     go : (a : Bool) → ltb 16 e.channel ≡ a → (b : Bool)
         → listed e.channel before ≡ b → (c : Bool) → ltb e.value v ≡ c
-        → (if a then some 7 else if b then some 8 else if c then some 9 else faulty (before ++ (e ∷ [])) e.value l)
+        → (if a then some refusal.MipNoChannel else if b then some refusal.MipListedTwice else if c then some refusal.MipFallingValue else faulty (before ++ (e ∷ [])) e.value l)
         ≡ none → Passed before v e l
     go true p b q c r h = impossible (cc)
     go false p true q c r h = impossible (cc)
@@ -118,18 +121,19 @@ well_formed l h n = record {
   channels = channels [] 0 l n;
 }
 
-pub accepted : (l : List ℕ) → (judged l).verdict ≡ Accepted → AcceptedTable l
+-- the table is the one that the message is judged to give
+pub accepted : (l : List ℕ) (t : Table) → judged l ≡ Ok t → AcceptedTable l t
 unfolding judged
-accepted l h =
-    go (ltb 32 (length l)) refl (eqb (length l) 0 || eqb (length l % 2) 1) refl (faulty [] 0 (pairs l)) refl h
+accepted l t h =
+    go (ltb 32 (length l)) refl (eqb (length l) 0 || eqb (length l % 2) 1) (faulty [] 0 (pairs l)) refl h
   where
-    go : (a : Bool) → ltb 32 (length l) ≡ a → (b : Bool)
-        → eqb (length l) 0 || eqb (length l % 2) 1 ≡ b → (o : Option ℕ) → faulty [] 0 (pairs l) ≡ o
-        → (if a then refused 5 else if b then refused 6 else judged_by (pairs l) o).verdict ≡ Accepted → AcceptedTable l
-    go true p b q o r h = impossible (cc)
-    go false p true q o r h = impossible (cc)
-    go false p false q (some n) r h = impossible (cc)
-    go false p false q none r h =
+    go : (a : Bool) → ltb 32 (length l) ≡ a → (b : Bool) → (o : Option Refusal) → faulty [] 0 (pairs l) ≡ o
+        → (if a then Err refusal.MipTooLong else if b then Err refusal.MipOddLength else judged_by (pairs l) o) ≡ Ok t
+        → AcceptedTable l t
+    go true p b o r h = impossible (cc)
+    go false p true o r h = impossible (cc)
+    go false p false (some n) r h = impossible (cc)
+    go false p false none r h =
         let w = well_formed l (ltb-false 32 (length l) p) r in
-        let t : (judged l).table ≡ table_of (pairs l) = rw (p, q, r) in
-        record { table = t; entries = ap entries_of t ∙ entries_of-table (pairs l) w.short; well_formed = w }
+        let s : t ≡ table_of (pairs l) = cc in
+        record { table = s; entries = ap entries_of s ∙ entries_of-table (pairs l) w.short; well_formed = w }

@@ -9,10 +9,12 @@ use native.Mathlib.Omega.{arith}
 use borrow.Author.Tests.{leb-true, leb-false, lt-ltb, le-ltb, eq-eqb, ne_eqb}
 use lib.Dec.{leb, ltb, eqb}
 use lib.ListN.{length, take, drop, length-take, length-drop}
-use Rattle.mip.specs.Mip.{pairs, refused, judged_pairs, judged}
+use Rattle.std.specs.Prelude.{Err}
+use Rattle.refusals.specs.declared.Refusal.TheVariants as refusal
+use Rattle.mip.specs.Mip.{pairs, judged_pairs, judged}
 
 module _ (n : ℕ) (l : List ℕ) (size : length l ≡ 37) where
-  pub too_long : 36 < n → refused 5 ≡ judged (drop 4 (take n l))
+  pub too_long : 36 < n → Err refusal.MipTooLong ≡ judged (drop 4 (take n l))
   unfolding judged
   too_long h =
       let k : 32 < length (drop 4 (take n l)) = rw (length-drop, length-take) (omega arith) in
@@ -37,7 +39,7 @@ module _ (n : ℕ) (l : List ℕ) (size : length l ≡ 37) where
         let k : length (drop 4 (take n l)) ≤ 32 = rw (length-drop, length-take) (omega arith) in
         le-ltb 32 (length (drop 4 (take n l))) k
 
-    pub none_or_odd : leb n 4 || eqb (n % 2) 1 ≡ true → refused 6 ≡ judged (drop 4 (take n l))
+    pub none_or_odd : leb n 4 || eqb (n % 2) 1 ≡ true → Err refusal.MipOddLength ≡ judged (drop 4 (take n l))
     unfolding judged
     none_or_odd t = rw (short, uneven h ∙ t)
 

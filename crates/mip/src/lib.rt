@@ -2,115 +2,53 @@
 // nothing.
 #![tactic(auto)]
 
-ghost use Rattle.std.specs.Prelude.{◌≡◌, ◌≤◌, drop};
+ghost use Rattle.std.specs.Prelude.{◌≡◌, ◌≤◌, drop, length};
 ghost use Rattle.splitter.specs.Split.{body};
-ghost use Rattle.mip.specs.Mip.{pairs, refused, judged_pairs, judged, pushed};
+ghost use Rattle.mip.specs.Mip.{pairs, judged_pairs, judged};
 
+use refusals::Refusal;
 use splitter::Parser;
 use table::{Entry, Table};
 
-// Whether a MIP message replaces the table.
-#[derive(Clone, Copy)]
-pub enum Verdict {
-    // It does.
-    Accepted,
-    // It does not, with its number, 5 to 9.
-    Refused(u8),
-}
-
-// The table is the message's if it is accepted, and empty if not.
-#[derive(Clone, Copy)]
-pub struct Judged {
-    pub verdict: Verdict,
-    pub table: Table,
-}
-
-// A table of no entry.
-const EMPTY: Table = Table {
-    count: 0,
-    entries: [Entry {
-        channel: 0,
-        value: 0,
-    }; 16],
-};
-
-// One entry more, of the lowest priority; a full table stays as it is.
-fn push(t: Table, e: Entry) -> Table
-    ensures { result ≡ pushed t e }
+// Reasons 7 to 9, pair by pair, with a mark for each channel that was listed. A last byte without a partner is not
+// looked at.
+fn judge_pairs(bytes: &[u8]) -> Result<Table, Refusal>
+    requires { length bytes.now ≤ 32 }
+    ensures { result ≡ judged_pairs (pairs bytes.now) }
 {
-    let n = t.count;
-    if 16 <= n {
-        return t;
-    }
-    let mut entries = t.entries;
-    entries[n as usize] = e;
-    Table {
-        count: n + 1,
-        entries: entries,
-    }
-}
-
-fn refuse(number: u8) -> Judged
-    ensures { result ≡ refused number }
-{
-    Judged {
-        verdict: Verdict::Refused(number),
-        table: EMPTY,
-    }
-}
-
-// Numbers 7 to 9, pair by pair, with a mark for each channel that was listed: the pairs start after the four bytes of
-// the head. A last byte without a partner is not looked at.
-fn judge_pairs(parser: Parser) -> Judged
-    requires { parser.count ≤ 36 }
-    ensures { result ≡ judged_pairs (pairs (drop 4 (body parser))) }
-{
-    let bytes = parser.bytes;
-    let n = parser.count as usize;
-    let mut t = EMPTY;
-    let mut before: u8 = 0;
-    let mut listed = [0u8; 256];
-    let mut i: usize = 4;
-    while i + 1 < n {
-        let m = bytes[i];
-        let v = bytes[i + 1];
+    let mut t = Table::EMPTY;
+    let mut before = 0;
+    let mut listed = [false; 17];
+    for pair in bytes.chunks_exact(2) {
+        let (m, value) = (pair[0], pair[1]);
         if 15 < m {
-            return refuse(7);
+            return Err(Refusal::MipNoChannel);
         }
-        let c = m + 1;
-        let mark = loops::place(c);
-        if listed[mark] != 0 {
-            return refuse(8);
+        let channel = m + 1;
+        if listed[usize::from(channel)] {
+            return Err(Refusal::MipListedTwice);
         }
-        if v < before {
-            return refuse(9);
+        if value < before {
+            return Err(Refusal::MipFallingValue);
         }
-        let e = Entry {
-            channel: c,
-            value: v,
-        };
-        let next = push(t, e);
-        t = next;
-        listed[mark] = 1;
-        before = v;
-        i += 2;
+        t.entries[usize::from(t.count)] = Entry { channel, value };
+        t.count += 1;
+        listed[usize::from(channel)] = true;
+        before = value;
     }
-    Judged {
-        verdict: Verdict::Accepted,
-        table: t,
-    }
+    Ok(t)
 }
 
-// The MIP message of a parser, over the whole of it.
-pub fn judge(parser: Parser) -> Judged
+// The table that a parser's MIP message gives, judged over the whole of it: the pairs follow the four bytes of the head.
+pub fn judge(parser: Parser) -> Result<Table, Refusal>
     ensures { result ≡ judged (drop 4 (body parser)) }
 {
     let n = parser.count;
     if 36 < n {
-        return refuse(5);
+        return Err(Refusal::MipTooLong);
     }
-    if (n <= 4) | (n % 2 == 1) {
-        return refuse(6);
+    if n <= 4 || n % 2 == 1 {
+        return Err(Refusal::MipOddLength);
     }
-    judge_pairs(parser)
+    judge_pairs(&parser.bytes[4..usize::from(n)])
 }

@@ -22,19 +22,22 @@ pub struct Table {
     pub entries: [Entry; 16],
 }
 
-// What stands after a table's entries.
-const BLANK: Entry = Entry {
-    channel: 0,
-    value: 0,
-};
-
 impl Table {
+    // The table of no entry.
+    pub const EMPTY: Table = Table {
+        count: 0,
+        entries: [Entry {
+            channel: 0,
+            value: 0,
+        }; 16],
+    };
+
     // The starting table: channel 10 first, then the others by number, so that places 1 to 9 have their own number and
     // those behind them one more; all sixteen values are P.
     pub fn start(polyphony: u8) -> Self
         ensures { result ≡ start_table polyphony }
     {
-        let mut entries = [BLANK; 16];
+        let mut entries = Table::EMPTY.entries;
         let mut i: usize = 0;
         while i < 16 {
             entries[i] = Entry {
