@@ -1,9 +1,7 @@
 -- R7.3: queries give an answer and no record.
-use Rattle.std.specs.Prelude.{ℕ, Bool, leb, if◌then◌else◌, Result, Ok, Err}
+use Rattle.std.specs.Prelude.{ℕ, Bool, leb, if◌then◌else◌, Result, Ok, Err, unwrap_or}
 use Rattle.refusals.specs.declared.Refusal.{Refusal}
 use Rattle.refusals.specs.declared.Refusal.TheVariants as refusal
-use Rattle.shares.specs.declared.Share.{Share}
-use Rattle.shares.specs.declared.Share.TheVariants.{Masked, Units}
 use Rattle.shares.specs.Shares.{share_of, is_masked, is_channel}
 use Rattle.generators.specs.Generators.{at}
 use Rattle.instrument.specs.Instrument.{is_rhythm}
@@ -30,14 +28,10 @@ mask_query d c =
     else Err refusal.NoChannel
 
 -- R7.6: its share, 0 if it is masked
-abbrev pub units : Share → ℕ
-units Masked = 0
-units (Units n) = n
-
 unfoldable pub share_query : Device → ℕ → Result ℕ Refusal
 share_query d c =
     if is_channel c
-    then Ok (units (share_of d.instrument.table d.instrument.polyphony c))
+    then Ok (unwrap_or (share_of d.instrument.table d.instrument.polyphony c) 0)
     else Err refusal.NoChannel
 
 -- R7.7: whether it is a rhythm channel

@@ -7,7 +7,6 @@ ghost use Rattle.queries.specs.Queries.{generator_query, mask_query, share_query
 
 use device::Device;
 use refusals::Refusal;
-use shares::Share;
 
 // What a query of a generator tells of it.
 #[derive(Clone, Copy, PartialEq, Eq)]
@@ -18,6 +17,7 @@ pub struct GeneratorState {
 }
 
 // The state, channel and key of generator g.
+#[tactic(auto, unfolding(crate::specs::Queries::generator_query))]
 pub fn generator_query(d: Device, g: u8) -> Result<GeneratorState, Refusal>
     ensures { result ≡ generator_query d g }
 {
@@ -34,6 +34,7 @@ pub fn generator_query(d: Device, g: u8) -> Result<GeneratorState, Refusal>
 }
 
 // Whether a channel is masked.
+#[tactic(auto, unfolding(crate::specs::Queries::mask_query))]
 pub fn mask_query(d: Device, channel: u8) -> Result<bool, Refusal>
     ensures { result ≡ mask_query d channel }
 {
@@ -44,19 +45,18 @@ pub fn mask_query(d: Device, channel: u8) -> Result<bool, Refusal>
 }
 
 // The share of a channel, 0 if it is masked.
+#[tactic(auto, unfolding(crate::specs::Queries::share_query))]
 pub fn share_query(d: Device, channel: u8) -> Result<u8, Refusal>
     ensures { result ≡ share_query d channel }
 {
     if !shares::is_channel(channel) {
         return Err(Refusal::NoChannel);
     }
-    match shares::share_of(d.instrument.table, d.instrument.polyphony, channel) {
-        Share::Masked => Ok(0),
-        Share::Units(n) => Ok(n),
-    }
+    Ok(shares::share_of(d.instrument.table, d.instrument.polyphony, channel).unwrap_or(0))
 }
 
 // Whether it is a rhythm channel; what is no channel is none.
+#[tactic(auto, unfolding(crate::specs::Queries::rhythm_query))]
 pub fn rhythm_query(d: Device, channel: u8) -> bool
     ensures { result ≡ rhythm_query d channel }
 {

@@ -1,7 +1,8 @@
 -- A line of the page from its fields, and the page from its lines: each line is put where the ones before it end.
 -- Assumes nothing.
-use Prim.Native.Nat.{ℕ, zero, suc, ◌+◌, ◌*◌, ◌≤◌, ◌<◌}
-use mathlib.Core.Path.{◌≡◌, refl, sym, ap, ◌∙◌}
+use Rattle.std.specs.Prelude.{Option, Some, None, Ok, Err}
+use Prim.Native.Nat.{ℕ, zero, suc, ◌+◌, ◌-◌, ◌*◌, ◌≤◌, ◌<◌}
+use mathlib.Core.Path.{◌≡◌, refl, sym, ap, ◌∙◌, subst}
 use mathlib.Core.List.{List, [], ◌∷◌, ◌++◌, append_assoc, append-nil}
 use native.Mathlib.Numerals.{add-one}
 use native.Mathlib.Omega.{arith}
@@ -10,16 +11,13 @@ use lib.ListN.{length, take, drop, get_or, length-append, length-drop, take-appe
 use lib.Seq.{length-take-le, take_at, drop_at, drop-drop}
 use Rattle.loops.specs.Passes.{up_to}
 use Rattle.loops.proofs.Fill.{at-up_to}
+use Rattle.refusals.specs.declared.Refusal.TheVariants as refusal
 use Rattle.table.specs.declared.Entry.{Entry}
 use Rattle.table.specs.Table.{entries_of}
-use Rattle.shares.specs.declared.Share.{Share}
-use Rattle.shares.specs.declared.Share.TheVariants.{Masked, Units}
 use Rattle.shares.specs.Shares.{shares_from, lookup}
 use Rattle.candidates.specs.Candidates.{busy_count}
 use Rattle.device.specs.declared.Device.{Device}
 use Rattle.service.specs.declared.Standing.{Standing}
-use Rattle.service.specs.declared.Standing.TheVariants.{Listed, Unlisted}
-use Rattle.service.specs.declared.PageAnswer.TheVariants.{Written, TooShort}
 use Rattle.service.specs.Page.{in_two, in_three, standing_from, place_field, value_field, share_field}
 use Rattle.service.specs.Page.{mark, head, line, row, rows_to, page_of, page_text, page_after, page_answer}
 
@@ -29,24 +27,24 @@ joined c p v s m b =
     get_or c 0 0 ∷ get_or c 1 0 ∷ 32 ∷ get_or p 0 0 ∷ get_or p 1 0 ∷ 32 ∷ get_or v 0 0 ∷ get_or v 1 0 ∷ get_or v 2 0
     ∷ 32 ∷ get_or s 0 0 ∷ get_or s 1 0 ∷ get_or s 2 0 ∷ 32 ∷ m ∷ 32 ∷ get_or b 0 0 ∷ get_or b 1 0 ∷ 10 ∷ []
 
-module _ (n : ℕ) (at : Standing) (share : Share) (busy : ℕ) where
+module _ (n : ℕ) (at : Option Standing) (share : Option ℕ) (busy : ℕ) where
   joined_line : joined (in_two n) (place_field at) (value_field at)
       (share_field share) (mark share) (in_two busy) ≡ line n at share busy
   unfolding line in_two in_three
   joined_line = go at share
     where
-      go : (x : Standing) (y : Share)
+      go : (x : Option Standing) (y : Option ℕ)
           → joined (in_two n) (place_field x) (value_field x) (share_field y) (mark y) (in_two busy) ≡ line n x y busy
-      go (Listed k v) Masked = refl
-      go (Listed k v) (Units u) = refl
-      go Unlisted Masked = refl
-      go Unlisted (Units u) = refl
+      go (Some s) None = refl
+      go (Some s) (Some u) = refl
+      go None None = refl
+      go None (Some u) = refl
 
   pub from_fields : (c p v s b : List ℕ) (m : ℕ) → c ≡ in_two n → p ≡ place_field at → v ≡ value_field at
       → s ≡ share_field share → m ≡ mark share → b ≡ in_two busy → joined c p v s m b ≡ line n at share busy
   from_fields c p v s b m ec ep ev es em eb = rw (ec, ep, ev, es, em, eb) joined_line
 
-pub line-length : (c : ℕ) (at : Standing) (s : Share) (busy : ℕ) → length (line c at s busy) ≡ 19
+pub line-length : (c : ℕ) (at : Option Standing) (s : Option ℕ) (busy : ℕ) → length (line c at s busy) ≡ 19
 line-length c at s busy = ap length (sym (joined_line c at s busy))
 
 module _ (t : List Entry) (p : ℕ) (busy : ℕ → ℕ) where
@@ -97,19 +95,22 @@ module _ (t : List Entry) (p : ℕ) (busy : ℕ → ℕ) where
         (append_assoc (take 19 old) (rows_to t p busy n) (row t p busy (n + 1))
         ∙ ap (λ (m : List ℕ). take 19 old ++ m) (next_row n)))
 
+    -- the same by the channel of the next line, one more than n
+    pub next_channel : (c : ℕ) (page new l : List ℕ) → 1 ≤ c → Rows old (c - 1) page → l ≡ row t p busy c
+        → new ≡ take (19 * c) page ++ l ++ drop (19 * c + 19) page → Rows old (c + 1 - 1) new
+    next_channel c page new l h e r k =
+        let up : c ≡ (c - 1) + 1 = omega arith in
+        let back : c + 1 - 1 ≡ (c - 1) + 1 = omega arith in
+        subst (λ (m : ℕ). Rows old m new) (sym back)
+        (next_rows (c - 1) page new l e (r ∙ ap (row t p busy) up)
+        (k ∙ ap (λ (m : ℕ). take (19 * m) page ++ l ++ drop (19 * m + 19) page) up))
+
     -- the page keeps its length
     pub rows_room : (n : ℕ) (page : List ℕ) → n ≤ 16 → Rows old n page → length page ≡ length old
     rows_room n page h e =
         let k = length-drop (19 * (n + 1)) old in
         let u = until n in
         rw e (length-append (take 19 old ++ rows_to t p busy n) (drop (19 * (n + 1)) old) ∙ omega arith)
-
--- a line more has room, and is one of the sixteen
-pub room : (n k : ℕ) → n < 16 → 323 ≤ k → 19 * (n + 1) + 19 ≤ k
-room n k h r = omega arith
-
-pub one_more : (n : ℕ) → n < 16 → n + 1 ≤ 16
-one_more n h = omega arith
 
 -- ---- the whole buffer
 
@@ -130,7 +131,7 @@ page-length d =
 
 module _ (d : Device) (old : List ℕ) where
   -- there is no room for the page
-  pub page_none : length old < 323 → (TooShort ≡ page_answer old) × (old ≡ page_after d old)
+  pub page_none : length old < 323 → (Err refusal.ShortPage ≡ page_answer old) × (old ≡ page_after d old)
   unfolding page_answer page_after
   page_none h = rw (lt-ltb (length old) 323 h) (refl, refl)
 
@@ -139,7 +140,7 @@ module _ (d : Device) (old : List ℕ) where
       → mid ≡ head ++ drop 19 old → busy ≡ up_to (busy_count d.instrument.generators) 17
       → new ≡ take 19 mid ++ rows_to (entries_of d.instrument.table) d.instrument.polyphony
       (λ c. get_or busy c 0) 16 ++ drop 323 mid
-      → (Written ≡ page_answer old) × (new ≡ page_after d old)
+      → (Ok tt ≡ page_answer old) × (new ≡ page_after d old)
   unfolding page_answer page_after page_text page_of head
   page-whole mid new busy r m b e =
       let f = busy_count d.instrument.generators in

@@ -2,6 +2,7 @@
 -- generators: 1, 10, 3 and 16 in this order, with values 2, 12, 12 and 100, of which the last is above P. And what the
 -- buffer keeps.
 -- Assumes nothing.
+use Rattle.std.specs.Prelude.{Ok, Err}
 use Prim.Native.Nat.{ℕ, ◌≤◌, ◌<◌}
 use mathlib.Core.Path.{◌≡◌, refl}
 use mathlib.Core.List.{List, [], ◌∷◌}
@@ -9,11 +10,11 @@ use mathlib.Core.Option.{some}
 use lib.ListN.{length, take, drop, replicate}
 use lib.Seq.{drop_at}
 use borrow.Author.Tests.{lt-ltb, le-ltb}
+use Rattle.refusals.specs.declared.Refusal.TheVariants as refusal
 use Rattle.table.specs.declared.Entry.{Entry}
 use Rattle.table.specs.Table.{entry}
 use Rattle.shares.specs.Shares.{shares_from, lookup}
 use Rattle.device.specs.declared.Device.{Device}
-use Rattle.service.specs.declared.PageAnswer.TheVariants.{Written, TooShort}
 use Rattle.service.specs.Page.{in_two, in_three, standing_from, head, line, row, rows_to}
 use Rattle.service.specs.Page.{page_of, page_text, page_after, page_answer, page_number}
 use Rattle.service.proofs.Lines.{page-length}
@@ -92,9 +93,9 @@ unfolding page_after
 untouched d old h = rw (lt-ltb (length old) 323 h) refl
 
 -- R8.18: from 323 bytes on the page is written
-pub under_323 : (page_answer (replicate 322 0) ≡ TooShort) × (page_answer (replicate 323 0) ≡ Written)
+pub under_323 : (page_answer (replicate 322 0) ≡ Err refusal.ShortPage) × (page_answer (replicate 323 0) ≡ Ok tt)
 unfolding page_answer
 under_323 = (refl, refl)
 
-pub number_18 : page_number TooShort ≡ some 18
+pub number_18 : page_number (Err refusal.ShortPage) ≡ some 18
 number_18 = refl

@@ -13,30 +13,20 @@ ghost use Rattle.service.specs.Page.{share_field, mark, row, rows_to, page_after
 
 use device::Device;
 use generators::Generators;
-use shares::Share;
+use refusals::Refusal;
 use table::Table;
 
-// Where a channel stands in the table.
+// Where a channel stands in the table: its place in the order, from 1, and its value.
 #[derive(Clone, Copy)]
-pub enum Standing {
-    // Its place in the order, from 1, and its value.
-    Listed(u8, u8),
-    // Nowhere.
-    Unlisted,
-}
-
-// The answer to a call for the page.
-#[derive(Clone, Copy)]
-pub enum PageAnswer {
-    // The page stands in the buffer's first 323 bytes.
-    Written,
-    // Number 18: the buffer has fewer than 323 bytes.
-    TooShort,
+pub struct Standing {
+    pub place: u8,
+    pub value: u8,
 }
 
 // ---- the fields
 
 // A number right_aligned in two places.
+#[tactic(auto, unfolding(crate::specs::Page::in_two))]
 fn two(n: u8) -> [u8; 2]
     ensures { result ≡ in_two n }
 {
@@ -47,6 +37,7 @@ fn two(n: u8) -> [u8; 2]
 }
 
 // A number right_aligned in three places.
+#[tactic(auto, unfolding(crate::specs::Page::in_three))]
 fn three(n: u8) -> [u8; 3]
     ensures { result ≡ in_three n }
 {
@@ -59,55 +50,52 @@ fn three(n: u8) -> [u8; 3]
     [b'0' + n / 100, b'0' + n / 10 % 10, b'0' + n % 10]
 }
 
-fn standing_of(t: Table, c: u8) -> Standing
+fn standing_of(t: Table, c: u8) -> Option<Standing>
     ensures { result ≡ standing_from 1 c (entries_of t) }
 {
-    let entries = t.entries;
-    let n = loops::at_most(16, t.count);
-    let mut k: u8 = 0;
-    while k < n {
-        let e = entries[k as usize];
+    let n = t.count.min(16);
+    for k in 0..n {
+        let e = t.entries[k as usize];
         if c == e.channel {
-            return Standing::Listed(k + 1, e.value);
+            return Some(Standing {
+                place: k + 1,
+                value: e.value,
+            });
         }
-        k += 1;
     }
-    Standing::Unlisted
+    None
 }
 
-fn place_field(at: Standing) -> [u8; 2]
+fn place_field(at: Option<Standing>) -> [u8; 2]
     ensures { result ≡ place_field at }
 {
     match at {
-        Standing::Listed(place, _) => two(place),
-        Standing::Unlisted => [b'-', b'-'],
+        Some(s) => two(s.place),
+        None => *b"--",
     }
 }
 
-fn value_field(at: Standing) -> [u8; 3]
+fn value_field(at: Option<Standing>) -> [u8; 3]
     ensures { result ≡ value_field at }
 {
     match at {
-        Standing::Listed(_, value) => three(value),
-        Standing::Unlisted => [b'-', b'-', b'-'],
+        Some(s) => three(s.value),
+        None => *b"---",
     }
 }
 
-fn share_field(s: Share) -> [u8; 3]
+fn share_field(s: Option<u8>) -> [u8; 3]
     ensures { result ≡ share_field s }
 {
-    match s {
-        Share::Masked => [b'-', b'-', b'-'],
-        Share::Units(n) => three(n),
-    }
+    s.map_or(*b"---", three)
 }
 
-fn mark_of(s: Share) -> u8
+fn mark_of(s: Option<u8>) -> u8
     ensures { result ≡ mark s }
 {
     match s {
-        Share::Masked => b'M',
-        Share::Units(_) => b'-',
+        Some(_) => b'-',
+        None => b'M',
     }
 }
 
@@ -122,17 +110,12 @@ fn is_counted(state: u8, channel: u8) -> bool
 fn busy_counts(s: Generators) -> [u8; 17]
     ensures { result ≡ up_to (busy_count s) 17 }
 {
-    let states = s.state;
-    let channels = s.channel;
     let mut out = [0u8; 17];
-    let mut g: usize = 0;
-    while g < 64 {
-        let c = channels[g];
-        if is_counted(states[g], c) {
-            let at = c as usize;
-            out[at] = out[at] + 1;
+    for g in 0..64 {
+        let c = s.channel[g];
+        if is_counted(s.state[g], c) {
+            out[c as usize] += 1;
         }
-        g += 1;
     }
     out
 }
@@ -162,11 +145,7 @@ fn put(page: &mut [u8], at: usize, line: [u8; 19])
     requires { at + 19 ≤ length page.old }
     ensures { page.new ≡ take at page.old ++ line ++ drop (at + 19) page.old }
 {
-    let mut i: usize = 0;
-    while i < 19 {
-        page[at + i] = line[i];
-        i += 1;
-    }
+    page[at..at + 19].copy_from_slice(&line);
 }
 
 // The lines of the sixteen channels, behind the head.
@@ -175,26 +154,21 @@ fn put_rows(page: &mut [u8], t: Table, p: u8, busy: [u8; 17])
     ensures { page.new ≡ take 19 page.old
         ++ rows_to (entries_of t) p (λ c. get_or busy c 0) 16 ++ drop 323 page.old }
 {
-    let mut n: usize = 0;
-    while n < 16 {
-        let c = n + 1;
+    for c in 1..17 {
         put(page, 19 * c, line(t, p, c as u8, busy[c]));
-        n = c;
     }
 }
 
 // Writes the page of a device into the first 323 bytes of a buffer; the other bytes keep their content. A buffer that
 // is too short is left as it is.
-pub fn write_page(d: Device, page: &mut [u8]) -> PageAnswer
+pub fn write_page(d: Device, page: &mut [u8]) -> Result<(), Refusal>
     ensures { (result ≡ page_answer page.old) × (page.new ≡ page_after d page.old) }
 {
     if page.len() < 323 {
-        return PageAnswer::TooShort;
+        return Err(Refusal::ShortPage);
     }
     let i = d.instrument;
-    let s = i.generators;
-    let t = i.table;
     put(page, 0, *b"CH PR VAL SHR M NT\n");
-    put_rows(page, t, i.polyphony, busy_counts(s));
-    PageAnswer::Written
+    put_rows(page, i.table, i.polyphony, busy_counts(i.generators));
+    Ok(())
 }
