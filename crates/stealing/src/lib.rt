@@ -17,8 +17,8 @@ fn is_over(generators: Generators, entry: Entry, before: u8, polyphony: u8, chan
         return false;
     }
     let count = candidates::busy_count(generators, entry.channel)
-        + loops::one(entry.channel == channel);
-    loops::less(entry.value, before) < count
+        + u8::from(entry.channel == channel);
+    entry.value.saturating_sub(before) < count
 }
 
 // The channel of lowest priority over its share: from the end of the table, so that mostly few channels are counted.
@@ -26,16 +26,11 @@ fn steal_from(generators: Generators, table: Table, polyphony: u8, channel: u8) 
     ensures { result ≡ steal_from generators table polyphony channel }
 {
     let entries = table.entries;
-    let mut i = loops::at_most(16, table.count);
-    while 0 < i {
-        i -= 1;
-        let e = entries[i as usize];
-        // The entry before, which the first has not: read here, since a function of the table would copy it for each
-        // entry.
-        let x = entries[loops::less(i, 1) as usize];
-        let before = loops::if_else(i == 0, 0, x.value);
-        if is_over(generators, e, before, polyphony, channel) {
-            return Some(e.channel);
+    for i in (0..usize::from(table.count.min(16))).rev() {
+        // Read here, since a function of the table would copy it for each entry.
+        let before = if i == 0 { 0 } else { entries[i - 1].value };
+        if is_over(generators, entries[i], before, polyphony, channel) {
+            return Some(entries[i].channel);
         }
     }
     None

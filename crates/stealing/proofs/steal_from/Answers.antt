@@ -1,53 +1,49 @@
--- `stealing::steal_from` meets its contract. Invariant: the answer for the first i entries is the answer for all. The
--- measure is i.
+-- `stealing::steal_from` meets its contract. Invariant: the answer for the first i entries is the answer for all.
 -- Assumes nothing.
-use Prim.Native.Nat.{◌<◌}
-use mathlib.Core.Path.{◌≡◌, refl, sym, ap, ◌∙◌}
+use Prim.Native.Nat.{◌-◌, ◌<◌}
+use mathlib.Core.Path.{◌≡◌, sym, ap, ◌∙◌}
 use native.Mathlib.Omega.{arith}
+use borrow.Author.Tests.{eq-eqb, ne_eqb}
+use Rattle.loops.specs.Cases.{given}
 use Rattle.loops.proofs.Padded.{take-at_most}
 use Rattle.shares.specs.Shares.{shares_from}
-use Rattle.table.proofs.Sizes.{entries_16}
 use Rattle.stealing.specs.Stealing.{counted, over_share, steal_from}
-use Rattle.loops.specs.Cases.{given}
-use Rattle.stealing.proofs.Backward.{over_yes, over_no}
+use Rattle.stealing.proofs.Backward.{before, over_yes, over_no}
 use Rattle.stealing.proofs.steal_from.Goals as goal
-
-pub loop-i-init : goal.loop-i-init
-loop-i-init c =
-    (omega (arith, c.at_most-i.ensures.1), entries_16 c.args.table c.well_formed.1.0, refl)
-
-pub bounds-entries-less : goal.bounds-entries-less
-bounds-entries-less c = omega (arith, c.less.ensures, c.loop-i.invariant.0)
+use Rattle.stealing.proofs.steal_from.Goals.{then-i-eq0, else-i-eq0}
 
 pub returns-then-is_over : goal.returns-then-is_over
 unfolding steal_from
 returns-then-is_over c =
     let a = c.args in
-    let m = c.at_most-i in
+    let t : c.if-i-eq0.before ≡ before a.table.entries (c.loop-i.i - 1) =
+    elim c.if-i-eq0.branch [
+      | then-i-eq0 w ↦ rw (eq-eqb _ _ w.if-i-eq0.true) w.before-is
+      | else-i-eq0 w ↦ rw (ne_eqb _ _ w.if-i-eq0.false) w.before-is
+    ] in
     let h : 0 < c.loop-i.i = c.loop-i-test.true in
-    let t = rw (c.if_else-before.ensures, c.less.ensures)
-    at (sym c.is_over.ensures ∙ c.if-is_over.true) in
-    rw (← (take-at_most 16 a.table.count a.table.entries c.loop-i.invariant.1), ← m.ensures.0)
+    rw (← (take-at_most 16 a.table.count a.table.entries c.loop-i.invariant.0))
     (ap given (over_yes a.polyphony (counted a.generators a.channel)
-    a.table.entries c.loop-i.i h (omega arith) _ c.loop-i.invariant.2 t))
+    a.table.entries c.loop-i.i h (omega arith) _ c.loop-i.invariant.1 (rw t at (sym c.is_over.ensures ∙ c.if-is_over.true))))
 
 pub loop-i-preserved : goal.loop-i-preserved
 loop-i-preserved c =
     let a = c.args in
-    let h : 0 < c.loop-i.i = c.loop-i-test.true in
-    let t = rw (c.if_else-before.ensures, c.less.ensures)
-    at (sym c.is_over.ensures ∙ c.if-is_over.false) in (
-      omega arith,
-      c.loop-i.invariant.1,
+    let t : c.if-i-eq0.before ≡ before a.table.entries (c.loop-i.i - 1) =
+    elim c.if-i-eq0.branch [
+      | then-i-eq0 w ↦ rw (eq-eqb _ _ w.if-i-eq0.true) w.before-is
+      | else-i-eq0 w ↦ rw (ne_eqb _ _ w.if-i-eq0.false) w.before-is
+    ] in
+    let h : 0 < c.loop-i.i = c.loop-i-test.true in (
+      c.loop-i.invariant.0,
       over_no a.polyphony (counted a.generators a.channel)
-          a.table.entries c.loop-i.i h (omega arith) _ c.loop-i.invariant.2 t,
+          a.table.entries c.loop-i.i h (omega arith) _ c.loop-i.invariant.1 (rw t at (sym c.is_over.ensures ∙ c.if-is_over.false)),
     )
 
 pub returns : goal.returns
 unfolding steal_from shares_from over_share
 returns c =
     let a = c.args in
-    let m = c.at_most-i in
     let e : c.loop-i.i ≡ 0 = omega arith in
-    rw (← (take-at_most 16 a.table.count a.table.entries c.loop-i.invariant.1), ← m.ensures.0)
-    (ap given (rw e at c.loop-i.invariant.2))
+    rw (← (take-at_most 16 a.table.count a.table.entries c.loop-i.invariant.0))
+    (ap given (rw e at c.loop-i.invariant.1))
