@@ -18,53 +18,41 @@ impl Ages {
     pub fn without(self, marks: [u8; 256]) -> Self
         ensures { result ≡ without self marks }
     {
-        let order = self.generator;
-        let n = loops::at_most(64, self.count) as usize;
-        let mut kept = [0u8; 64];
-        let mut m: u8 = 0;
-        let mut i: usize = 0;
-        while i < n {
-            let g = order[i];
-            let at = m as usize;
+        let n = usize::from(self.count.min(64));
+        let mut generator = [0u8; 64];
+        let mut count: u8 = 0;
+        for g in &self.generator[..n] {
             // Put behind those that stay even if it does not: the next one that stays replaces it.
-            kept[at] = g;
-            let mark = loops::place(g);
-            m = m + loops::one(marks[mark] == 0);
-            i += 1;
+            generator[usize::from(count)] = *g;
+            count += u8::from(marks[usize::from(*g)] == 0);
         }
-        let end = m as usize;
-        if end < 64 {
-            kept[end] = 0;
+        if count < 64 {
+            generator[usize::from(count)] = 0;
         }
-        Ages {
-            count: m,
-            generator: kept,
-        }
+        Ages { count, generator }
     }
 
     // The order with generator g assigned anew: the newest.
+    #[tactic(auto, unfolding(crate::specs::Ages::newest))]
     pub fn newest(self, g: u8) -> Self
         ensures { result ≡ newest self g }
     {
-        let at = g as usize;
-        if 64 <= at {
+        if 64 <= g {
             return self;
         }
         let mut mark = [0u8; 256];
-        mark[at] = 1;
-        let older = self.without(mark);
-        older.push(g)
+        mark[usize::from(g)] = 1;
+        self.without(mark).push(g)
     }
 
+    #[tactic(auto, unfolding(crate::specs::Ages::pushed))]
     fn push(self, g: u8) -> Self
         ensures { result ≡ pushed self g }
     {
-        let at = self.count as usize;
         let mut next = self;
-        if at < 64 {
-            next.generator[at] = g;
-            next.count = self.count + 1;
-            return next;
+        if self.count < 64 {
+            next.generator[usize::from(self.count)] = g;
+            next.count += 1;
         }
         next
     }

@@ -3,7 +3,7 @@
 -- Assumes nothing.
 use Prim.Native.Nat.{◌<◌}
 use native.Mathlib.Omega.{arith}
-use borrow.Author.Tests.{lt-ltb, le-ltb}
+use borrow.Author.Tests.{lt-ltb}
 use mathlib.Core.Path.{◌∙◌}
 use Rattle.loops.specs.Passes.{filter_by}
 use Rattle.loops.proofs.Search.{filter_same}
@@ -11,15 +11,11 @@ use Rattle.ages.specs.Ages.{oldest_first, other_than, without, newest}
 use Rattle.ages.proofs.Orders.{push_of, one_marked}
 use Rattle.ages.proofs.Ages.newest.Goals as goal
 
-pub returns-then-at-ge64 : goal.returns-then-at-ge64
-unfolding newest
-returns-then-at-ge64 c = simp (le-ltb _ _ c.if-at-ge64.true)
-
 pub returns : goal.returns
 unfolding newest without
 returns c =
     let a = c.args in
-    let h : a.g < 256 = omega (arith, c.if-at-ge64.false) in
+    let h : a.g < 256 = omega (arith, c.if-g-ge64.false) in
     let others = filter_same _ (other_than a.g) (oldest_first a.self) (one_marked a.g h) in
-    simp (lt-ltb _ _ c.if-at-ge64.false) (c.push.ensures
-    ∙ rw (c.without-older.ensures, others) (push_of (filter_by (other_than a.g) (oldest_first a.self)) a.g))
+    simp (lt-ltb _ _ c.if-g-ge64.false) (c.push.ensures
+    ∙ rw (c.without.ensures, c.from.ensures, others) (push_of (filter_by (other_than a.g) (oldest_first a.self)) a.g))

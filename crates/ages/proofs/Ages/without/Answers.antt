@@ -1,62 +1,62 @@
--- `ages::Ages::without` meets its contract. Invariant: with a 0 put at m the array holds the unmarked ones among the
--- first i, and 0 behind them; m is their number. The measure is what is left of the order.
+-- `ages::Ages::without` meets its contract. Invariant: with a 0 put at count the array holds the unmarked ones among the
+-- numbers gone over, and 0 behind them; count is their number.
 -- Assumes nothing.
 use Prim.Native.Nat.{ℕ, ◌<◌}
 use mathlib.Core.Path.{◌≡◌, refl, sym, ap, ◌∙◌}
 use native.Mathlib.Omega.{arith}
-use lib.ListN.{length, set, get_or, length-set}
-use lib.Seq.{set_out}
+use lib.ListN.{length, set, get_or, take, length-set}
+use lib.Seq.{set_out, length-take-le}
+use Rattle.std.proofs.lemmas.List.{get_or-take}
 use Rattle.loops.specs.Cases.{bit}
 use Rattle.loops.specs.Passes.{filter_by, padded}
+use Rattle.loops.proofs.Totals.{bit_le}
 use Rattle.loops.proofs.Compact.{kept, kept-count}
 use Rattle.ages.specs.Ages.{unmarked, without}
 use Rattle.ages.proofs.Orders.{kept_end, loose_next}
 use Rattle.ages.proofs.Sizes.{generator_64}
 use Rattle.ages.proofs.Ages.without.Goals as goal
 
-pub loop-i-init : goal.loop-i-init
+pub loop-g-init : goal.loop-g-init
 unfolding filter_by padded
-loop-i-init c =
-    let a = c in
-    (omega arith, c.at_most-n.ensures.1, generator_64 a.args.self a.well_formed.0, omega arith, refl, refl, refl)
+loop-g-init c =
+    (generator_64 c.args.self c.well_formed.0, omega arith, refl, refl, refl)
 
-pub bounds-marks-mark : goal.bounds-marks-mark
-bounds-marks-mark c = c.place-mark.ensures.1
-
-pub loop-i-preserved : goal.loop-i-preserved
-loop-i-preserved c =
-    let b = c in
-    let l = b.loop-i in
-    let a = b.args in
+pub loop-g-preserved : goal.loop-g-preserved
+loop-g-preserved c =
+    let l = c.loop-g in
+    let a = c.args in
     let order = a.self.generator in
+    let i = l.g-index in
     let p = unmarked a.marks in
-    let h : l.i < length order = omega arith in
-    let k : l.i < 64 = omega arith in
-    let q = kept-count p 0 64 order l.i l.m (padded 64 0 (kept p 0 64 order l.i))
-    (p (get_or order l.i 0)) h k refl l.invariant.4 refl in
-    let r = loose_next p order l.i l.m l.kept h k l.invariant.4 l.invariant.6 in
-    let s = length-set l.kept l.m (get_or order l.i 0) in
-    let e = c.one-m.ensures.0 ∙ ap (λ (n : ℕ). bit (unmarked a.marks n)) c.place-mark.ensures.0 in
-    (omega arith, l.invariant.1, l.invariant.2, omega (arith, c.one-m.ensures.1), rw e q, s ∙ l.invariant.5, rw e r)
+    let long : length (take c.from-n.result order) ≡ c.from-n.result = length-take-le c.from-n.result order (omega arith) in
+    let h : i < length order = omega arith in
+    let k : i < 64 = omega arith in
+    let at = get_or-take c.from-n.result order i 0 (omega arith) in
+    let x : c.from-count.result ≡ bit (p (get_or order i 0)) =
+    c.from-count.ensures ∙ ap (λ (g : ℕ). bit (p g)) (c.from-in-loop-g.ensures ∙ at) in
+    let few = bit_le (p (get_or order i 0)) in
+    let q = kept-count p 0 64 order i l.count (padded 64 0 (kept p 0 64 order i))
+    (p (get_or order i 0)) h k refl l.invariant.2 refl in
+    let r = loose_next p order i l.count l.generator h k l.invariant.2 l.invariant.4 in
+    let s = length-set l.generator l.count (get_or order i 0) in
+    rw (at, c.from.ensures, x) (l.invariant.0, omega arith, q, s ∙ l.invariant.3, r)
 
-pub returns-then-end-lt64 : goal.returns-then-end-lt64
+pub returns-then-count-lt64 : goal.returns-then-count-lt64
 unfolding without
-returns-then-end-lt64 c =
-    let b = c in
-    let l = b.loop-i in
-    let a = b.args in
-    let n = b.at_most-n in
-    let e : l.i ≡ n.result = omega arith in
-    kept_end (unmarked a.marks) a.self l.i l.m
-    (set l.kept l.m 0) l.invariant.2 (e ∙ n.ensures.0) l.invariant.4 l.invariant.6
+returns-then-count-lt64 c =
+    let l = c.loop-g in
+    let a = c.args in
+    let long : length (take c.from-n.result a.self.generator) ≡ c.from-n.result =
+    length-take-le c.from-n.result a.self.generator (omega arith) in
+    rw c.from-then-count-lt64.ensures (kept_end (unmarked a.marks) a.self l.g-index l.count
+    (set l.generator l.count 0) l.invariant.0 (omega arith) l.invariant.2 l.invariant.4)
 
-pub returns-else-end-lt64 : goal.returns-else-end-lt64
+pub returns-else-count-lt64 : goal.returns-else-count-lt64
 unfolding without
-returns-else-end-lt64 c =
-    let b = c in
-    let l = b.loop-i in
-    let a = b.args in
-    let n = b.at_most-n in
-    let e : l.i ≡ n.result = omega arith in
-    let o = sym (set_out l.kept l.m 0 (omega (arith, c.if-end-lt64.false))) ∙ l.invariant.6 in
-    kept_end (unmarked a.marks) a.self l.i l.m l.kept l.invariant.2 (e ∙ n.ensures.0) l.invariant.4 o
+returns-else-count-lt64 c =
+    let l = c.loop-g in
+    let a = c.args in
+    let long : length (take c.from-n.result a.self.generator) ≡ c.from-n.result =
+    length-take-le c.from-n.result a.self.generator (omega arith) in
+    let o = sym (set_out l.generator l.count 0 (omega (arith, c.if-count-lt64.false))) ∙ l.invariant.4 in
+    kept_end (unmarked a.marks) a.self l.g-index l.count l.generator l.invariant.0 (omega arith) l.invariant.2 o
