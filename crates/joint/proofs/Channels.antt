@@ -2,44 +2,24 @@
 -- adds nothing where it stood before, and else its busy generators.
 -- Assumes nothing.
 use Rattle.std.specs.Prelude.{if◌then◌else◌}
-use mathlib.Core.Path.{◌≡◌, refl, ap, ◌∙◌}
+use Rattle.std.specs.List.{list_any}
+use mathlib.Core.Path.{◌≡◌, refl, sym, ap, ◌∙◌}
 use mathlib.Core.Bool.{Bool, true, false, ◌&&◌, ◌||◌}
 use mathlib.Core.List.{List, [], ◌∷◌, ◌++◌}
-use Prim.Native.Nat.{ℕ, ◌+◌, ◌≤◌, ◌<◌}
+use Prim.Native.Nat.{ℕ, ◌+◌, ◌≤◌, ◌<◌, max}
 use native.Mathlib.Numerals.{add-one}
 use native.Mathlib.Omega.{arith}
-use borrow.Author.Tests.{eqb-true}
-use lib.Dec.{eqb}
-use lib.ListN.{length, take, drop, get_or, length-take, drop_of_length-le}
-use lib.Seq.{drop-cons, take-suc, get_or-take}
+use borrow.Author.Tests.{eqb-true, eqb-false, ltb-true, ltb-false}
+use lib.Dec.{eqb, ltb}
+use lib.ListN.{length, take, get_or}
+use lib.Seq.{take-suc}
 use Rattle.loops.specs.Cases.{bit}
 use Rattle.loops.specs.Passes.{total}
 use Rattle.loops.proofs.Totals.{total_zero, total-same, total_add, total_bits}
 use Rattle.generators.specs.declared.Generators.{Generators}
 use Rattle.generators.specs.Generators.{at, is_busy, is_busy_on}
 use Rattle.candidates.specs.Candidates.{busy_count}
-use Rattle.joint.specs.Joint.{among, busy_on}
-
--- ---- a channel among the first n
-
-module _ (l : List ℕ) (n i c : ℕ) where
-  rest : i < n → n ≤ length l → drop i (take n l) ≡ get_or l i 0 ∷ drop (i + 1) (take n l)
-  rest h k =
-      let s : i < length (take n l) = rw length-take (omega arith) in
-      drop-cons (take n l) i 0 s ∙ rw (add-one, get_or-take n l i 0 h)
-
-  pub among_here : (r : Bool) → i < n → n ≤ length l
-      → among c (drop i (take n l)) ≡ r → eqb c (get_or l i 0) ≡ true → true ≡ r
-  among_here r h k e t = rw (rest h k, t) at e
-
-  pub among_next : (r : Bool) → i < n → n ≤ length l → among c (drop i (take n l)) ≡ r
-      → eqb c (get_or l i 0) ≡ false → among c (drop (i + 1) (take n l)) ≡ r
-  among_next r h k e t = rw (rest h k, t) at e
-
-  pub among_end : (r : Bool) → n ≤ i → among c (drop i (take n l)) ≡ r → false ≡ r
-  among_end r h e =
-      let s : length (take n l) ≤ i = rw length-take (omega arith) in
-      rw (drop_of_length-le (take n l) s) at e
+use Rattle.joint.specs.Joint.{among, busy_on, larger}
 
 -- ---- one channel more
 
@@ -130,3 +110,24 @@ pub busy_none : (s : Generators) → busy_on [] s ≡ 0
 unfolding busy_on
 busy_none s = total-same (λ (g : ℕ). bit (is_busy (at s g) && false))
     (λ (g : ℕ). 0) 64 (λ g h. bit_none (is_busy (at s g))) ∙ total_zero 64
+
+pub larger_max : (a b : ℕ) → max a b ≡ larger a b
+larger_max a b = go (ltb a b) refl
+  where
+    go : (t : Bool) → ltb a b ≡ t → max a b ≡ (if t then b else a)
+    go true e = let k = ltb-true a b e in omega arith
+    go false e = let k = ltb-false a b e in omega arith
+
+eqb_turn : (x y : ℕ) → eqb x y ≡ eqb y x
+eqb_turn x y = go (eqb x y) (eqb y x) refl refl
+  where
+    go : (a b : Bool) → eqb x y ≡ a → eqb y x ≡ b → a ≡ b
+    go true true p q = refl
+    go true false p q = let e = eqb-true x y p in absurd (eqb-false y x q (sym e))
+    go false true p q = let e = eqb-true y x q in absurd (eqb-false x y p (sym e))
+    go false false p q = refl
+
+-- the library's search is the definition's
+pub any_among : (c : ℕ) (l : List ℕ) → list_any (λ y. eqb y c) l ≡ among c l
+any_among c [] = refl
+any_among c (x ∷ l) = rw (eqb_turn x c, any_among c l) refl

@@ -3,15 +3,15 @@
 use Prim.Native.Nat.{◌+◌}
 use mathlib.Core.Path.{sym, ◌∙◌}
 use native.Mathlib.Omega.{arith}
-use lib.ListN.{take}
-use Rattle.joint.proofs.Channels.{joint-same, joint_more, busy_64}
+use lib.ListN.{take, get_or}
+use Rattle.joint.proofs.Channels.{any_among, joint-same, joint_more, busy_64}
 use Rattle.joint.proofs.next_joint.Goals as goal
 
-pub returns-then-stands : goal.returns-then-stands
-returns-then-stands c =
+pub returns-then-contains : goal.returns-then-contains
+returns-then-contains c =
     let a = c.args in
     let z = c.well_formed.0.1.0.1 in
-    let e = joint-same a.order a.s a.k (omega arith) (sym c.stands.ensures ∙ c.if-stands.true) in
+    let e = joint-same a.order a.s a.k (omega arith) (sym (any_among (get_or a.order a.k 0) (take a.k a.order)) ∙ sym c.contains.ensures.value ∙ c.if-contains.true) in
     (c.requires.1 ∙ sym e, c.requires.2)
 
 pub returns : goal.returns
@@ -19,6 +19,6 @@ returns c =
     let a = c.args in
     let z = c.well_formed.0.1.0.1 in
     let e = joint_more a.order a.s a.k (omega arith)
-    (sym c.stands.ensures ∙ c.if-stands.false) in
+    (sym (any_among (get_or a.order a.k 0) (take a.k a.order)) ∙ sym c.contains.ensures.value ∙ c.if-contains.false) in
     let f = busy_64 (take (a.k + 1) a.order) a.s in
     (omega arith, omega arith)

@@ -1,7 +1,7 @@
 -- `joint::raise` meets its contract. Invariant: joint is the joint count of the first k channels, and the first k
 -- counts are raised.
 -- Assumes nothing.
-use Prim.Native.Nat.{◌+◌, ◌-◌, ◌≤◌}
+use Prim.Native.Nat.{◌+◌, ◌≤◌}
 use mathlib.Core.Path.{◌≡◌}
 use mathlib.Core.List.{◌++◌}
 use lib.ListN.{length, take, drop, get_or}
@@ -15,6 +15,3 @@ invariant-loop-k l =
     × (l.joint ≡ busy_on (take l.k l.order) l.s) × (l.joint ≤ 64)
     × (l.out ≡ up_to (λ j. larger (get_or l.most j 0) (busy_on (take (j + 1) l.order) l.s)) l.k
     ++ drop l.k l.initial.out)
-
-abbrev pub decreases-loop-k : goal.decreases-loop-k
-decreases-loop-k l = 16 - l.k
