@@ -16,6 +16,7 @@ use refusals::Refusal;
 pub const MOST_BYTES: usize = 65536;
 
 // The byte of the song at i: the status, then keys at odd places and velocities at even ones.
+#[tactic(auto, unfolding(crate::specs::Song::song_byte))]
 fn song_byte(i: usize) -> u8
     ensures { result ≡ song_byte i }
 {
@@ -50,6 +51,7 @@ fn is_too_long(n: usize, room: usize) -> bool
 
 // Writes the song of n bytes into the buffer's first n bytes, plays each of them on a fresh device of this polyphony,
 // and answers the thefts that the device told.
+#[tactic(auto, unfolding(crate::specs::Song::song_answer, crate::specs::Song::song_written))]
 pub fn write_song(polyphony: u8, n: usize, song: &mut [u8]) -> Result<u32, Refusal>
     ensures { (result ≡ song_answer polyphony n song.old)
         × (song.new ≡ song_written polyphony n song.old) }
