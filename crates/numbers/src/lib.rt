@@ -9,17 +9,13 @@ ghost use Rattle.service.specs.Page.{page_number, page_after, page_answer};
 ghost use Rattle.pitch.specs.Pitch.{pitch_of};
 ghost use Rattle.numbers.specs.Numbers.{was_number, numbers_of, generator_numbers, mask_numbers, share_numbers};
 ghost use Rattle.numbers.specs.Numbers.{rhythm_number};
-ghost use Rattle.numbers.specs.Numbers.{pitch_numbers, GainsTold, GainsToldOf, refused_song, song_numbers};
+ghost use Rattle.numbers.specs.Numbers.{pitch_numbers, GainsTold, GainsToldOf, song_numbers};
 
 use allocation::Was;
 use channels::Channel;
 use device::Device;
-use gains::GainsAnswer;
-use pitch::PitchAnswer;
 use playing::Answer;
-use queries::{GeneratorAnswer, MaskAnswer, ShareAnswer};
-use service::PageAnswer;
-use song::SongAnswer;
+use refusals::Refusal;
 
 // An answer: what (0 none, 1 done, 2 a note, 3 a number), the number, channel and key, the generator and what it was (0
 // idle, 1 release, 2 stolen). A field without meaning is 0.
@@ -109,33 +105,29 @@ fn was_number(w: Was) -> u8
 pub fn answer_numbers(a: Answer) -> AnswerNumbers
     ensures { result ≡ numbers_of a }
 {
-    let mut told = BLANK;
     match a {
-        Answer::Nothing => told,
-        Answer::Done => {
-            told.what = 1;
-            told
-        }
-        Answer::Note(channel, key, generator, was) => {
-            told.what = 2;
-            told.channel = channel;
-            told.key = key;
-            told.generator = generator;
-            told.was = was_number(was);
-            told
-        }
-        Answer::NoNote(number, channel, key) => {
-            told.what = 3;
-            told.number = number;
-            told.channel = channel;
-            told.key = key;
-            told
-        }
-        Answer::Number(number) => {
-            told.what = 3;
-            told.number = number;
-            told
-        }
+        Answer::Nothing => BLANK,
+        Answer::Done => AnswerNumbers { what: 1, ..BLANK },
+        Answer::Note(channel, key, generator, was) => AnswerNumbers {
+            what: 2,
+            channel,
+            key,
+            generator,
+            was: was_number(was),
+            ..BLANK
+        },
+        Answer::NoNote(refusal, channel, key) => AnswerNumbers {
+            what: 3,
+            number: refusal.number(),
+            channel,
+            key,
+            ..BLANK
+        },
+        Answer::Number(refusal) => AnswerNumbers {
+            what: 3,
+            number: refusal.number(),
+            ..BLANK
+        },
     }
 }
 
@@ -143,14 +135,14 @@ pub fn generator_numbers(d: Device, g: u8) -> GeneratorNumbers
     ensures { result ≡ generator_numbers (generator_query d g) }
 {
     match queries::generator_query(d, g) {
-        GeneratorAnswer::GeneratorIs(state, channel, key) => GeneratorNumbers {
+        Ok(s) => GeneratorNumbers {
             number: 0,
-            state: state,
-            channel: channel,
-            key: key,
+            state: s.state,
+            channel: s.channel,
+            key: s.key,
         },
-        GeneratorAnswer::NoGenerator => GeneratorNumbers {
-            number: 12,
+        Err(refusal) => GeneratorNumbers {
+            number: refusal.number(),
             state: 0,
             channel: 0,
             key: 0,
@@ -162,16 +154,12 @@ pub fn mask_numbers(d: Device, channel: u8) -> MaskNumbers
     ensures { result ≡ mask_numbers (mask_query d channel) }
 {
     match queries::mask_query(d, channel) {
-        MaskAnswer::IsMasked => MaskNumbers {
+        Ok(masked) => MaskNumbers {
             number: 0,
-            masked: 1,
+            masked: u8::from(masked),
         },
-        MaskAnswer::IsUnmasked => MaskNumbers {
-            number: 0,
-            masked: 0,
-        },
-        MaskAnswer::NoSuchChannel => MaskNumbers {
-            number: 14,
+        Err(refusal) => MaskNumbers {
+            number: refusal.number(),
             masked: 0,
         },
     }
@@ -181,12 +169,9 @@ pub fn share_numbers(d: Device, channel: u8) -> ShareNumbers
     ensures { result ≡ share_numbers (share_query d channel) }
 {
     match queries::share_query(d, channel) {
-        ShareAnswer::ShareIs(share) => ShareNumbers {
-            number: 0,
-            share: share,
-        },
-        ShareAnswer::NotAChannel => ShareNumbers {
-            number: 14,
+        Ok(share) => ShareNumbers { number: 0, share },
+        Err(refusal) => ShareNumbers {
+            number: refusal.number(),
             share: 0,
         },
     }
@@ -196,7 +181,7 @@ pub fn share_numbers(d: Device, channel: u8) -> ShareNumbers
 pub fn rhythm_number(d: Device, channel: u8) -> u8
     ensures { result ≡ rhythm_number (rhythm_query d channel) }
 {
-    loops::one(queries::rhythm_query(d, channel))
+    u8::from(queries::rhythm_query(d, channel))
 }
 
 // The service page into a lent buffer: 0, or number 18 for a buffer that is too short.
@@ -205,8 +190,8 @@ pub fn page_number(d: Device, page: &mut [u8]) -> u8
         × (page.new ≡ page_after d page.old) }
 {
     match service::write_page(d, page) {
-        PageAnswer::Written => 0,
-        PageAnswer::TooShort => 18,
+        Ok(()) => 0,
+        Err(refusal) => refusal.number(),
     }
 }
 
@@ -214,15 +199,15 @@ pub fn pitch_numbers(key: u8, sensitivity: u8, bend: u16) -> PitchNumbers
     ensures { result ≡ pitch_numbers (pitch_of key sensitivity bend) }
 {
     match pitch::pitch_of(key, sensitivity, bend) {
-        PitchAnswer::Sounds(p) => PitchNumbers {
+        Ok(p) => PitchNumbers {
             entry: p.entry,
             octave: p.octave,
             number: 0,
         },
-        PitchAnswer::OutOfRange => PitchNumbers {
+        Err(refusal) => PitchNumbers {
             entry: 65536,
             octave: 0,
-            number: 21,
+            number: refusal.number(),
         },
     }
 }
@@ -231,15 +216,15 @@ pub fn gain_numbers(expression: u8, volume: u8, pan: u8) -> GainNumbers
     ensures { GainsTold expression volume pan result }
 {
     match gains::gains_of(expression, volume, pan) {
-        GainsAnswer::GainsAre(g) => GainNumbers {
+        Ok(g) => GainNumbers {
             left: g.left,
             right: g.right,
             number: 0,
         },
-        GainsAnswer::OutOfRange => GainNumbers {
+        Err(refusal) => GainNumbers {
             left: 0.0,
             right: 0.0,
-            number: 24,
+            number: refusal.number(),
         },
     }
 }
@@ -250,24 +235,14 @@ pub fn channel_gain_numbers(c: Channel) -> GainNumbers
     gain_numbers(c.expression, c.volume, c.pan)
 }
 
-fn refused_song(number: u8) -> SongNumbers
-    ensures { result ≡ refused_song number }
+pub fn song_numbers(song: Result<u32, Refusal>) -> SongNumbers
+    ensures { result ≡ song_numbers song }
 {
-    SongNumbers {
-        thefts: 0,
-        number: number,
-    }
-}
-
-pub fn song_numbers(a: SongAnswer) -> SongNumbers
-    ensures { result ≡ song_numbers a }
-{
-    match a {
-        SongAnswer::Thefts(thefts) => SongNumbers {
-            thefts: thefts,
-            number: 0,
+    match song {
+        Ok(thefts) => SongNumbers { thefts, number: 0 },
+        Err(refusal) => SongNumbers {
+            thefts: 0,
+            number: refusal.number(),
         },
-        SongAnswer::WrongPolyphony => refused_song(1),
-        SongAnswer::TooLong => refused_song(25),
     }
 }
