@@ -2,7 +2,7 @@
 #![tactic(auto)]
 
 ghost use Rattle.std.specs.Prelude.{◌≡◌};
-ghost use Rattle.drums.specs.Drums.{group_of, excludes};
+ghost use Rattle.drums.specs.Drums.{group, excludes};
 
 // A drum key with the number of its exclusive group.
 #[derive(Clone, Copy)]
@@ -25,25 +25,17 @@ const DRUMS: [Drum; 11] = [
     Drum { key: 81, group: 5 },
 ];
 
-// The exclusive group of a key, 0 if it has none.
-fn group(key: u8) -> u8
-    ensures { result ≡ group_of key }
+// The exclusive group of a key, if it has one.
+fn group(key: u8) -> Option<u8>
+    ensures { result ≡ group key }
 {
-    let mut i: usize = 0;
-    while i < 11 {
-        let d = DRUMS[i];
-        if d.key == key {
-            return d.group;
-        }
-        i += 1;
-    }
-    0
+    DRUMS.iter().find(|d| d.key == key).map(|d| d.group)
 }
 
 // Whether a new note of `key` silences one of `other`: another key of the same group.
 pub fn excluded(key: u8, other: u8) -> bool
     ensures { result ≡ excludes key other }
 {
-    let g = group(key);
-    (other != key) & ((g != 0) & (group(other) == g))
+    let group_of_key = group(key);
+    (other != key) & group_of_key.is_some() & (group(other) == group_of_key)
 }

@@ -1,33 +1,23 @@
--- `drums::group` meets its contract. Invariant: the first row of the key among the rows from i on is the first among
--- all; the measure is the rows left.
+-- `drums::group` meets its contract: what `find` finds is the first row of the key, and that has the key's group.
 -- Assumes nothing.
-use Prim.Native.Nat.{◌≤◌, ◌<◌}
-use mathlib.Core.Path.{refl}
-use native.Mathlib.Omega.{arith}
-use lib.ListN.{length}
-use borrow.Author.Tests.{eq-eqb, ne_eqb}
-use Rattle.loops.proofs.Search.{first_yes, first_no, first_end}
-use Rattle.drums.proofs.Rows.{rows, none_row, is_key, of_row, of_none}
+use Rattle.std.proofs.Common.{rules, ◌≡◌, ◌∙◌, ap, arith}
+use Rattle.std.specs.Prelude.{find}
+use Rattle.std.specs.Option.{option_map}
+use Rattle.std.proofs.lemmas.Iterator.{YieldsList-from_slice}
+use Rattle.std.proofs.lemmas.Iterator.Search.{find_from_yields_List}
+use borrow.Author.Tests.{tests}
+use Rattle.drums.specs.declared.Drum.{Drum}
+use Rattle.drums.proofs.Rows.{rows, is_key, group_found}
 use Rattle.drums.proofs.group.Goals as goal
 
-pub loop-i-init : goal.loop-i-init
-loop-i-init c = (omega arith, refl)
-
-pub returns-then-d-key : goal.returns-then-d-key
-returns-then-d-key c =
-    let k = c.args.key in
-    let h : c.loop-i.i < length rows = omega arith in
-    of_row k _ (omega arith)
-    (first_yes (is_key k) none_row rows c.loop-i.i _ h c.loop-i.invariant.1 (eq-eqb _ _ c.if-d-key.true))
-
-pub loop-i-preserved : goal.loop-i-preserved
-loop-i-preserved c =
-    let k = c.args.key in
-    let h : c.loop-i.i < length rows = omega arith in
-    (omega arith, first_no (is_key k) none_row rows c.loop-i.i _ h c.loop-i.invariant.1 (ne_eqb _ _ c.if-d-key.false))
+-- `find` goes over the rows of the table
+first_row : (c : goal.After-map) → option_map (λ x. x.now) c.find.result ≡ find (is_key c.args.key) rows
+first_row c =
+    find_from_yields_List (is_key c.args.key) _ _ c.find.result c.find.ensures.ran
+    (YieldsList-from_slice rows (cc))
+    (λ x b q h. search (rules, tests))
 
 pub returns : goal.returns
 returns c =
-    let k = c.args.key in
-    let h : length rows ≤ c.loop-i.i = omega arith in
-    of_none k (omega arith) (first_end (is_key k) rows c.loop-i.i _ h c.loop-i.invariant.1)
+    let m : c.map.result ≡ option_map (λ d. d.group) (option_map (λ x. x.now) c.find.result) = search rules in
+    m ∙ ap (option_map (λ (d : Drum). d.group)) (first_row c) ∙ group_found c.args.key (omega arith)
