@@ -1,32 +1,19 @@
 -- The starting table, for every P: its entries are the sixteen channels in their order, each with the value P, and well
 -- formed. The order is that of a formula, computed over all sixteen places.
 -- Assumes nothing.
-use Rattle.std.specs.Prelude.{if◌then◌else◌}
-use mathlib.Core.Path.{◌≡◌, refl, sym, ap, ◌∙◌}
-use mathlib.Core.List.{List, map}
-use Prim.Native.Nat.{ℕ, ◌+◌, ◌<◌}
+use mathlib.Core.Path.{◌≡◌, refl}
+use mathlib.Core.List.{map}
+use Prim.Native.Nat.{ℕ}
 use borrow.Author.Rules.{rules}
-use lib.Dec.{eqb, ltb}
-use lib.ListN.{length, get_or}
-use Rattle.loops.specs.Cases.{bit}
+use lib.ListN.{length}
 use Rattle.loops.specs.Passes.{up_to, padded}
-use Rattle.loops.proofs.Fill.{at-up_to}
 use Rattle.table.specs.Laws.{WellFormed}
-use Rattle.table.specs.Table.{entry, entries_of, table_of, start_order, start_table, listed}
-
--- the channel at a place, counted from 0: 10 first, then the others by number, so that places 1 to 9 have their own
--- number and those behind them one more
-abbrev pub start_channel : ℕ → ℕ
-start_channel i = if eqb i 0 then 10 else i + bit (ltb 9 i)
+use Rattle.table.specs.Table.{entry, entries_of, table_of, start_channel, start_order, start_table, listed}
 
 -- the starting order is that formula, place by place
 pub order_by_formula : start_order ≡ up_to start_channel 16
 unfolding up_to
 order_by_formula = refl
-
--- the channel at one of the sixteen places
-pub start_channel_lem : (i : ℕ) → i < 16 → start_channel i ≡ get_or start_order i 0
-start_channel_lem i h = sym (ap (λ (l : List ℕ). get_or l i 0) order_by_formula ∙ at-up_to start_channel 0 16 i h)
 
 pub start_entries : (p : ℕ) → entries_of (start_table p) ≡ map (λ (c : ℕ). entry c p) start_order
 unfolding start_table table_of padded

@@ -3,8 +3,10 @@
 // By value, for every table value and every P. Assumes nothing.
 #![tactic(auto)]
 
-ghost use Rattle.std.specs.Prelude.{◌≡◌};
-ghost use Rattle.table.specs.Table.{start_table};
+ghost use Rattle.std.specs.Prelude.{◌≡◌, ◌<◌};
+ghost use Rattle.table.specs.Table.{entry, start_channel, start_table};
+
+use std::array;
 
 // A channel, 1 to 16, and the polyphony needed by it and all listed before it.
 #[repr(C)]
@@ -37,18 +39,20 @@ impl Table {
     pub fn start(polyphony: u8) -> Self
         ensures { result ≡ start_table polyphony }
     {
-        let mut entries = Table::EMPTY.entries;
-        let mut i: usize = 0;
-        while i < 16 {
-            entries[i] = Entry {
-                channel: loops::if_else(i == 0, 10, i as u8 + loops::one(9 < i)),
-                value: polyphony,
-            };
-            i += 1;
-        }
         Table {
             count: 16,
-            entries: entries,
+            entries: array::from_fn(
+                |i: usize| -> Entry
+                    requires { i < 16 }
+                    ensures { result ≡ entry (start_channel i) polyphony }
+                {
+                    let by_number = i as u8 + u8::from(9 < i);
+                    Entry {
+                        channel: if i == 0 { 10 } else { by_number },
+                        value: polyphony,
+                    }
+                },
+            ),
         }
     }
 }
