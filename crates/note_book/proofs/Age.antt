@@ -26,6 +26,7 @@ use Rattle.instrument.specs.Instrument.{fresh, with_channel, with_kind, with_gen
 use Rattle.instrument.specs.Instrument as of-instrument
 use Rattle.masking.specs.Masking.{masked}
 use Rattle.playing.specs.declared.Answer.{Answer}
+use Rattle.refusals.specs.declared.Refusal.TheVariants as refusal
 use Rattle.playing.specs.declared.Answer.TheVariants.{Done, Number}
 use Rattle.playing.specs.Playing.{replied, played}
 use Rattle.controllers.specs.Controllers.{lifts_pedal, silences_all, ends_all}
@@ -94,9 +95,9 @@ module _ (i : Instrument) (o : Ordered i.generators) (l : List ℕ) (f : Follows
   follows-report g = go (leb i.polyphony g) (is_idle (at i.generators g))
     where
       go : (x y : Bool)
-          → Follows (if x then replied (Number 12) i else if y then replied (Number 13) i
+          → Follows (if x then replied (Number refusal.NoGenerator) i else if y then replied (Number refusal.IdleGenerator) i
           else replied Done (with_generators i (silenced (leaving.One g) i.generators))).instrument.generators
-          (named l (if x then replied (Number 12) i else if y then replied (Number 13) i
+          (named l (if x then replied (Number refusal.NoGenerator) i else if y then replied (Number refusal.IdleGenerator) i
           else replied Done (with_generators i (silenced (leaving.One g) i.generators))).answer)
       go true y = f
       go false true = f

@@ -1,7 +1,7 @@
 -- Bytes and reports make a lawful system. Bytes enter by one lemma: the device's parser and the book's splitter are
 -- the same, so the book hears the message that the device obeys.
 -- Assumes nothing.
-use Rattle.std.specs.Prelude.{if◌then◌else◌}
+use Rattle.std.specs.Prelude.{if◌then◌else◌, Result, Ok, Err}
 use mathlib.Core.Path.{◌≡◌, refl, sym, ap, subst}
 use mathlib.Core.Bool.{Bool, true, false, ◌||◌}
 use mathlib.Core.List.{List, []}
@@ -17,13 +17,14 @@ use Rattle.splitter.specs.declared.Completed.{Completed}
 use Rattle.splitter.specs.declared.Completed.TheVariants as completed
 use Rattle.splitter.specs.Split.{quiet, body, split}
 use Rattle.message.specs.Message.{channel_of, decode}
+use Rattle.refusals.specs.declared.Refusal.{Refusal}
+use Rattle.refusals.specs.declared.Refusal.TheVariants as refusal
 use Rattle.table.specs.declared.Entry.{Entry}
+use Rattle.table.specs.declared.Table.{Table}
 use Rattle.table.specs.Laws.{WellFormed}
 use Rattle.sysex.specs.declared.Kind.{Kind}
 use Rattle.sysex.specs.declared.Kind.TheVariants as kind
 use Rattle.sysex.specs.SysEx.{kind_of}
-use Rattle.mip.specs.declared.Verdict.{Verdict}
-use Rattle.mip.specs.declared.Verdict.TheVariants.{Accepted, Refused}
 use Rattle.mip.specs.Mip.{pairs, judged}
 use Rattle.mip.proofs.Accepted.{accepted}
 use Rattle.age_law.proofs.Assigned.{Follows}
@@ -61,21 +62,19 @@ decode_sent s a b =
 -- ---- SysEx
 
 module _ (i : Instrument) (b : Book) (l : List ℕ) where
-  mip-right : (v : Verdict) → (judged (drop 4 l)).verdict ≡ v
-      → Right i b
-      (if is_done (judged_reply i v (judged (drop 4 l)).table).answer then new_table (pairs (drop 4 l)) else nothing)
-      (judged_reply i v (judged (drop 4 l)).table).answer (judged_reply i v (judged (drop 4 l)).table).instrument
-  mip-right Accepted e =
-      let t = accepted (drop 4 l) e in
-      subst (λ (x : List Entry). Right i b (new_table x) answer.Done
-      (of-exclusive.new_table i (judged (drop 4 l)).table)) t.entries
-      (right-table (judged (drop 4 l)).table (subst WellFormed (sym t.entries) t.well_formed))
-  mip-right (Refused n) e = right-nothing (answer.Number n) (λ m. refl)
+  mip-right : (v : Result Table Refusal) → judged (drop 4 l) ≡ v
+      → Right i b (if is_done (judged_reply i v).answer then new_table (pairs (drop 4 l)) else nothing)
+      (judged_reply i v).answer (judged_reply i v).instrument
+  mip-right (Ok t) e =
+      let a = accepted (drop 4 l) t e in
+      subst (λ (x : List Entry). Right i b (new_table x) answer.Done (of-exclusive.new_table i t)) a.entries
+      (right-table t (subst WellFormed (sym a.entries) a.well_formed))
+  mip-right (Err r) e = right-nothing (answer.Number r) (λ m. refl)
 
   kind-right : (k : Kind) → Right i b (if is_done (kind_reply i l k).answer then exclusive_heard l k else nothing)
       (kind_reply i l k).answer (kind_reply i l k).instrument
   unfolding mip_taken
-  kind-right kind.Mip = mip-right (judged (drop 4 l)).verdict refl
+  kind-right kind.Mip = mip-right (judged (drop 4 l)) refl
   kind-right kind.SystemOn = right-reset
   kind-right kind.Other = right-nothing answer.Nothing (λ m. refl)
 
@@ -85,8 +84,8 @@ completed-right : (i : Instrument) (b : Book) (p : Parser) (c : Completed)
     → Right i b (completed_heard i.id p c (heard i p c).answer) (heard i p c).answer (heard i p c).instrument
 unfolding heard exclusive
 completed-right i b p completed.Nothing = right-nothing answer.Nothing (λ m. refl)
-completed-right i b p completed.Stray = right-nothing (answer.Number 3) (λ m. refl)
-completed-right i b p completed.Cut = right-nothing (answer.Number 4) (λ m. refl)
+completed-right i b p completed.Stray = right-nothing (answer.Number refusal.Stray) (λ m. refl)
+completed-right i b p completed.Cut = right-nothing (answer.Number refusal.Cut) (λ m. refl)
 completed-right i b p (completed.Message s x y) = right-message (decode s x y) (decode_sent s x y)
 completed-right i b p completed.SysEx = kind-right i b (body p) (kind_of i.id (body p))
 
@@ -133,8 +132,8 @@ fine_begin p id = go (ltb p 1 || ltb 64 p) refl (ltb 126 id)
     begun o = record { device = o.device; splitter = quiet; book = start_book p id o.answer }
 
     go : (x : Bool) → ltb p 1 || ltb 64 p ≡ x → (y : Bool)
-        → Fine Live lawful (begun (if x then fresh_output (answer.Number 1) 1 0
-        else if y then fresh_output (answer.Number 2) 1 0 else fresh_output answer.Done p id))
+        → Fine Live lawful (begun (if x then fresh_output (answer.Number refusal.WrongPolyphony) 1 0
+        else if y then fresh_output (answer.Number refusal.WrongId) 1 0 else fresh_output answer.Done p id))
     go true e y = fine_fresh 1 0 (omega arith)
     go false e true = fine_fresh 1 0 (omega arith)
     go false e false = fine_fresh p id (ltb-false 64 p (or_right (ltb p 1) (ltb 64 p) e))
@@ -144,7 +143,7 @@ unfolding started
 silent-begin p id = go (ltb p 1 || ltb 64 p) (ltb 126 id)
   where
     go : (x y : Bool)
-        → Follows (if x then fresh_output (answer.Number 1) 1 0 else if y then fresh_output (answer.Number 2) 1 0
+        → Follows (if x then fresh_output (answer.Number refusal.WrongPolyphony) 1 0 else if y then fresh_output (answer.Number refusal.WrongId) 1 0
         else fresh_output answer.Done p id).device.instrument.generators []
     go true y = nothing_sounds 1 0
     go false true = nothing_sounds 1 0

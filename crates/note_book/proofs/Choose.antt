@@ -1,7 +1,8 @@
 -- Steps 4 and 5 behind one law: what the choice can be, said of the notes. Which generator of the chosen channel is
 -- stolen is said of the notes and of the order of age: the first one on the pedal, else the first one down.
 -- Assumes nothing.
-use Rattle.std.specs.Prelude.{if◌then◌else◌}
+use Rattle.std.specs.Prelude.{if◌then◌else◌, Some, None, Result, Ok, Err}
+use Rattle.std.specs.Prelude as prelude
 use mathlib.Core.Path.{◌≡◌, refl, sym, ap, ◌∙◌, subst}
 use mathlib.Core.Bool.{Bool, true, false, ◌&&◌, true≢false, false≢true}
 use mathlib.Core.List.{List, [], ◌∷◌, ◌++◌}
@@ -10,30 +11,29 @@ use Prim.Native.Nat.{ℕ, zero, suc, ◌+◌, ◌≤◌, ◌<◌}
 use native.Mathlib.Omega.{arith}
 use borrow.Author.Tests.{ltb-true, ltb-false, eqb-true, eqb-false, eq-eqb}
 use lib.Dec.{eqb, ltb}
-use Rattle.loops.specs.Cases.{bit, at_most}
+use Rattle.loops.specs.Cases.{bit, at_most, given}
 use Rattle.loops.specs.Passes.{up_to, total, first_of, count}
 use Rattle.loops.proofs.Totals.{total-same}
 use Rattle.loops.proofs.Occurs.{occurs, occurs_snoc}
 use Rattle.loops.proofs.Search.{first-same}
 use Rattle.loops.proofs.Tests.{and_left, and_right}
+use Rattle.refusals.specs.declared.Refusal.{Refusal}
+use Rattle.refusals.specs.declared.Refusal.TheVariants as refusal
 use Rattle.table.specs.declared.Entry.{Entry}
 use Rattle.table.specs.declared.Table.{Table}
 use Rattle.table.specs.Laws.{Distinct}
 use Rattle.table.specs.Table.{listed}
-use Rattle.shares.specs.declared.Share.{Share}
-use Rattle.shares.specs.declared.Share.TheVariants.{Masked, Units}
 use Rattle.shares.specs.Shares.{shares, sum, lookup}
 use Rattle.ages.specs.Ages.{oldest_first}
 use Rattle.generators.specs.declared.Generators.{Generators}
 use Rattle.generators.specs.Generators.{Generator, at, is_idle, is_held, is_sustained, is_releasing, is_on, is_busy_on}
 use Rattle.candidates.specs.declared.Want.TheVariants.{Releasing, SustainedOn, HeldOn}
-use Rattle.candidates.specs.Candidates.{found, lowest_idle, wanted, oldest, stolen_first, busy_count}
+use Rattle.candidates.specs.Candidates.{lowest_idle, wanted, oldest, stolen_first, busy_count}
 use Rattle.candidates.proofs.Wanted.{found_none}
-use Rattle.stealing.specs.Stealing.{counted, otherwise, over_share, to_loser, steal_from, loses, victim}
+use Rattle.stealing.specs.Stealing.{counted, otherwise, over_share, steal_from, loses, victim}
 use Rattle.allocation.specs.declared.Was.{Was}
 use Rattle.allocation.specs.declared.Was.TheVariants.{Idle, Release, Stolen}
 use Rattle.allocation.specs.declared.Taken.{Taken}
-use Rattle.allocation.specs.declared.Taken.TheVariants.{Took, Refused}
 use Rattle.allocation.specs.Allocation.{is_stolen, or_else, choice}
 use Rattle.note_book.specs.Book.{Slot, empty, note, is_note, is_down, is_on_pedal, is_of, notes_on}
 use Rattle.note_book.specs.Claim.{slot_of}
@@ -87,11 +87,7 @@ numbers_in (suc n) g h = let s = occurs_snoc g n (numbers n) in go (eqb n g) ref
     go false e ih s = let k = ih (omega arith) in omega arith
 
 at_most_p : (p : ℕ) → p ≤ 64 → at_most 64 p ≡ p
-at_most_p p h = go (ltb p 64) refl
-  where
-    go : (b : Bool) → ltb p 64 ≡ b → (if b then p else 64) ≡ p
-    go true e = refl
-    go false e = let k = ltb-false p 64 e in omega arith
+at_most_p p h = omega arith
 
 -- ---- one generator
 
@@ -170,9 +166,9 @@ rest-notes x h i r = go (kind x.state)
         let d = eqb-false x.state 3 r in
         absurd (omega arith)
 
-over_none : (x : Share) → IsOver x 0 → ⊥
-over_none Masked v = v
-over_none (Units u) v = omega arith
+over_none : (x : prelude.Option ℕ) → IsOver x 0 → ⊥
+over_none None v = v
+over_none (Some u) v = omega arith
 
 -- ---- the choice
 
@@ -183,14 +179,14 @@ Full p n = (g : ℕ) → g < p → is_note (n g) ≡ true
 abbrev pub KeyLast : (ℕ → Slot) → ℕ → ℕ → Type 0
 KeyLast n d g = is_down (n g) ≡ true → (h : ℕ) → is_on_pedal (n h) && is_of d (n h) ≡ false
 
-pub data Chosen (p : ℕ) (n : ℕ → Slot) (s : Generators) (q : List Entry) (c : ℕ) : Taken → Type 0 where
-  free : (g : ℕ) (w : Was) → is_stolen w ≡ false → g < p → n g ≡ empty → Chosen p n s q c (Took g w)
+pub data Chosen (p : ℕ) (n : ℕ → Slot) (s : Generators) (q : List Entry) (c : ℕ) : Result Taken Refusal → Type 0 where
+  free : (g : ℕ) (w : Was) → is_stolen w ≡ false → g < p → n g ≡ empty → Chosen p n s q c (Ok (record { generator = g; was = w }))
   theft : (g d : ℕ) → Full p n → g < p → is_of d (n g) ≡ true → IsOver (lookup d q) (with_new p n c d)
       → over_share (with_new p n c) q ≡ some d → first_to_go n (oldest_first s.ages) d ≡ some g → KeyLast n d g
-      → Chosen p n s q c (Took g Stolen)
+      → Chosen p n s q c (Ok (record { generator = g; was = Stolen }))
   shut : Full p n → IsOver (lookup c q) (with_new p n c c) → notes_on p c n ≡ 0
       → over_share (with_new p n c) q ≡ some c → first_to_go n (oldest_first s.ages) c ≡ none
-      → Chosen p n s q c (Refused 11)
+      → Chosen p n s q c (Err refusal.NothingToSteal)
 
 pub total_cut : (f : ℕ → ℕ) (m n : ℕ) → m ≤ n → ((i : ℕ) → m ≤ i → f i ≡ 0) → total f n ≡ total f m
 unfolding total
@@ -270,7 +266,7 @@ module _ (p : ℕ) (n : ℕ → Slot) (s : Generators) (o : Playable p s) (e : S
       all = none_at_all (λ x. is_on_pedal x && is_of d x) refl
           (missed _ y (first_law (λ g. is_on_pedal (n g) && is_of d (n g)) (oldest_first s.ages)))
 
-  loses-notes : (d : ℕ) → loses s (to_loser (some d)) ≡ found (first_to_go n (oldest_first s.ages) d)
+  loses-notes : (d : ℕ) → loses s (given (some d)) ≡ given (first_to_go n (oldest_first s.ages) d)
   unfolding oldest wanted stolen_first
   loses-notes d = go (eqb (total (λ g. bit (is_sustained (at s g) && is_on d (at s g))) 64) 0) refl
     where
@@ -279,18 +275,18 @@ module _ (p : ℕ) (n : ℕ → Slot) (s : Generators) (o : Playable p s) (e : S
 
       there : (x : Option ℕ) → pedal ≡ x
           → eqb (total (λ g. bit (is_sustained (at s g) && is_on d (at s g))) 64) 0 ≡ false
-          → (y : Option ℕ) → found x ≡ found (otherwise x y)
+          → (y : Option ℕ) → given x ≡ given (otherwise x y)
       there (some g) r q y = refl
       there none r q y = absurd (true≢false (sym (eq-eqb _ _ (none_counted d r)) ∙ q))
 
       go : (b : Bool) → eqb (total (λ g. bit (is_sustained (at s g) && is_on d (at s g))) 64) 0 ≡ b
-          → found (first_of (λ g. wanted (if b then HeldOn d else SustainedOn d) (at s g)) (oldest_first s.ages))
-          ≡ found (first_to_go n (oldest_first s.ages) d)
+          → given (first_of (λ g. wanted (if b then HeldOn d else SustainedOn d) (at s g)) (oldest_first s.ages))
+          ≡ given (first_to_go n (oldest_first s.ages) d)
       go true q =
           let z : pedal ≡ none = sym (pedal-search d) ∙ none-sustained d (eqb-true _ _ q) in
-          ap found (down-search d ∙ sym (ap (λ (x : Option ℕ). otherwise x
+          ap given (down-search d ∙ sym (ap (λ (x : Option ℕ). otherwise x
           (first_of (λ g. is_down (n g) && is_of d (n g)) (oldest_first s.ages))) z))
-      go false q = ap found (pedal-search d) ∙ there pedal refl q _
+      go false q = ap given (pedal-search d) ∙ there pedal refl q _
 
   -- what the searches find
   data Lost (d : ℕ) : Option ℕ → Type 0 where
@@ -317,7 +313,7 @@ module _ (p : ℕ) (n : ℕ → Slot) (s : Generators) (o : Playable p s) (e : S
       (l : listed c q ≡ true) (h : (g : ℕ) → IsListed q (n g)) where
     -- the chosen channel has a note, or is the new note's own
     take-first : Full p n → (d : ℕ) → over_share (with_new p n c) q ≡ some d → IsOver (lookup d q) (with_new p n c d)
-        → Chosen p n s q c (or_else (loses s (to_loser (some d))) Stolen (Refused 11))
+        → Chosen p n s q c (or_else (loses s (given (some d))) Stolen (Err refusal.NothingToSteal))
     unfolding total
     take-first f d o v = rw (loses-notes d) (go (first_to_go n (oldest_first s.ages) d) refl (lost d))
       where
@@ -326,7 +322,7 @@ module _ (p : ℕ) (n : ℕ → Slot) (s : Generators) (o : Playable p s) (e : S
         own m false eb z v = absurd (over_none (lookup d q) (rw z at v))
 
         go : (x : Option ℕ) → first_to_go n (oldest_first s.ages) d ≡ x → Lost d x
-            → Chosen p n s q c (or_else (found x) Stolen (Refused 11))
+            → Chosen p n s q c (or_else (given x) Stolen (Err refusal.NothingToSteal))
         go x r (a-note g y k) =
             theft g d f (below g (note_sounds (at s g) (ap is_note (sym (e g)) ∙ of_note d (n g) y))) y v o r k
         go x r (no_note z) =
@@ -338,7 +334,7 @@ module _ (p : ℕ) (n : ℕ → Slot) (s : Generators) (o : Playable p s) (e : S
             (subst (λ (y : ℕ). first_to_go n (oldest_first s.ages) y ≡ none) h r)
 
     rob : Full p n → (x : Option ℕ) → over_share (with_new p n c) q ≡ x
-        → Chosen p n s q c (or_else (loses s (to_loser x)) Stolen (Refused 11))
+        → Chosen p n s q c (or_else (loses s (given x)) Stolen (Err refusal.NothingToSteal))
     rob f none r = absurd (pigeons p n q c f h l t r)
     rob f (some d) r = take-first f d r (over_some (with_new p n c) q d u r)
 
@@ -349,7 +345,7 @@ module _ (p : ℕ) (n : ℕ → Slot) (s : Generators) (o : Playable p s) (e : S
       where
         steal : Full p n
             → Chosen p n s q c
-            (or_else (loses s (to_loser (over_share (counted s c) (shares p m)))) Stolen (Refused 11))
+            (or_else (loses s (given (over_share (counted s c) (shares p m)))) Stolen (Err refusal.NothingToSteal))
         steal f =
             rw (r, over_same (counted s c) (with_new p n c) q (λ d. ap (λ (k : ℕ). k + bit (eqb d c)) (count-notes d)))
             (rob f (over_share (with_new p n c) q) refl)
@@ -362,14 +358,14 @@ module _ (p : ℕ) (n : ℕ → Slot) (s : Generators) (o : Playable p s) (e : S
 
         next : ((g : ℕ) → 1 ≤ occurs g (numbers p) → is_idle (at s g) ≡ false)
             → (x : Option ℕ) → Picked (λ g. is_releasing (at s g)) (oldest_first s.ages) x
-            → Chosen p n s q c (or_else (found x) Release (or_else (victim s m p c) Stolen (Refused 11)))
+            → Chosen p n s q c (or_else (given x) Release (or_else (victim s m p c) Stolen (Err refusal.NothingToSteal)))
         next a x (some_one g b k) =
             free g Release refl (below g (releasing_sounds (at s g) b)) (e g ∙ releasing_slot (at s g) b)
         next a x (no_one b) = steal (full a b)
 
         go : (x : Option ℕ) → Picked (λ g. is_idle (at s g)) (numbers p) x → Chosen p n s q c
-            (or_else (found x) Idle
-            (or_else (oldest Releasing s) Release (or_else (victim s m p c) Stolen (Refused 11))))
+            (or_else (given x) Idle
+            (or_else (oldest Releasing s) Release (or_else (victim s m p c) Stolen (Err refusal.NothingToSteal))))
         go x (some_one g b k) = free g Idle refl (numbers_in p g k) (e g ∙ idle_slot (at s g) b)
         go x (no_one a) = next a (first_of (λ g. is_releasing (at s g)) (oldest_first s.ages))
             (first_law (λ g. is_releasing (at s g)) (oldest_first s.ages))

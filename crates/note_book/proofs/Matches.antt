@@ -2,7 +2,7 @@
 -- stands on a masked channel. Here: what a change of the generators alone asks for, and the law of note-on, with what
 -- it can answer said of the book only. All that follows goes by cases on that.
 -- Assumes nothing.
-use Rattle.std.specs.Prelude.{if◌then◌else◌}
+use Rattle.std.specs.Prelude.{if◌then◌else◌, Result, Err}
 use mathlib.Core.Path.{◌≡◌, refl, sym, ap, ap₂, ◌∙◌, subst}
 use mathlib.Core.Bool.{Bool, true, false, ◌&&◌, ◌||◌, false≢true}
 use mathlib.Core.List.{List, [], ◌∷◌, ◌++◌}
@@ -14,6 +14,8 @@ use lib.Dec.{eqb, ltb}
 use lib.ListN.{length}
 use Rattle.loops.specs.Passes.{filter_by}
 use Rattle.loops.proofs.Tests.{and_left, and_right}
+use Rattle.refusals.specs.declared.Refusal.{Refusal}
+use Rattle.refusals.specs.declared.Refusal.TheVariants as refusal
 use Rattle.table.specs.declared.Entry.{Entry}
 use Rattle.table.specs.Laws.{WellFormed}
 use Rattle.table.specs.Table.{entries_of, listed}
@@ -32,7 +34,6 @@ use Rattle.age_law.proofs.Assigned.{follows_assigned, follows_changed, follows_s
 use Rattle.allocation.specs.declared.Was.{Was}
 use Rattle.allocation.specs.declared.Was.TheVariants.{Stolen}
 use Rattle.allocation.specs.declared.Taken.{Taken}
-use Rattle.allocation.specs.declared.Taken.TheVariants.{Refused}
 use Rattle.allocation.specs.Allocation.{is_stolen, cleared, choice, allocated, note_on}
 use Rattle.instrument.specs.declared.Instrument.{Instrument}
 use Rattle.instrument.specs.Instrument.{channel_of, with_generators}
@@ -101,14 +102,14 @@ freed-listed q f p (note d c k) h = go (f (note d c k)) p
 -- ---- what a note-on can answer
 
 pub data Outcome (b : Book) (c k : ℕ) : Answer → Type 0 where
-  masked : is_masked (share_of b c) ≡ true → Outcome b c k (NoNote 10 c k)
+  masked : is_masked (share_of b c) ≡ true → Outcome b c k (NoNote refusal.Masked c k)
   served : (g : ℕ) (w : Was) → is_masked (share_of b c) ≡ false
       → is_stolen w ≡ false → remaining b c k g ≡ empty → Outcome b c k (Note c k g w)
   robbed : (g d : ℕ) → is_masked (share_of b c) ≡ false → IsFull b c k → is_of d (remaining b c k g) ≡ true
       → IsOver (share_of b d) (with_new b.polyphony (remaining b c k) c d)
       → Outcome b c k (Note c k g Stolen)
   turned : is_masked (share_of b c) ≡ false → IsFull b c k
-      → IsOver (share_of b c) (with_new b.polyphony (remaining b c k) c c) → Outcome b c k (NoNote 11 c k)
+      → IsOver (share_of b c) (with_new b.polyphony (remaining b c k) c c) → Outcome b c k (NoNote refusal.NothingToSteal c k)
 
 pub record NoteLaw (i : Instrument) (b : Book) (c k : ℕ) (r : Reply) : Type 0 where
   pub outcome : Outcome b c k r.answer
@@ -247,7 +248,7 @@ note_law i b m c k = rw (same-rhythm i b m c) (go (is_masked (of-table.share_of 
         follows_assigned s ready.ordered g c k (omega arith) l
         (follows_cleared r c k i.generators m.playable.ordered l f)
 
-    take : is_masked (share_of b c) ≡ false → listed c q ≡ true → (t : Taken)
+    take : is_masked (share_of b c) ≡ false → listed c q ≡ true → (t : Result Taken Refusal)
         → Chosen p n s q c t → NoteLaw i b c k (note_reply i c k (allocated i.generators s c k t))
     take u l t (free g w z h e) =
         record {
@@ -275,7 +276,7 @@ note_law i b m c k = rw (same-rhythm i b m c) (go (is_masked (of-table.share_of 
         }
 
     go : (x : Bool) → is_masked (of-table.share_of i.table i.polyphony c) ≡ x
-        → NoteLaw i b c k (note_reply i c k (if x then record { taken = Refused 10; generators = i.generators }
+        → NoteLaw i b c k (note_reply i c k (if x then record { taken = Err refusal.Masked; generators = i.generators }
         else allocated i.generators s c k (choice s i.table i.polyphony c)))
     go true e =
         let z : is_masked (share_of b c) ≡ true = ap is_masked (sym (same-share i b m c)) ∙ e in

@@ -2,7 +2,8 @@
 -- note more, since the shares come to at most P. Sums go over the list of shares, q; a channel's number there is n of
 -- it.
 -- Assumes nothing.
-use Rattle.std.specs.Prelude.{if◌then◌else◌}
+use Rattle.std.specs.Prelude.{if◌then◌else◌, Some, None}
+use Rattle.std.specs.Prelude as prelude
 use mathlib.Core.Path.{◌≡◌, refl, sym, ap, ◌∙◌}
 use mathlib.Core.Bool.{Bool, true, false, ◌||◌, true≢false, false≢true}
 use mathlib.Core.List.{List, [], ◌∷◌}
@@ -16,8 +17,6 @@ use Rattle.loops.specs.Passes.{total}
 use Rattle.table.specs.declared.Entry.{Entry}
 use Rattle.table.specs.Laws.{Distinct}
 use Rattle.table.specs.Table.{listed}
-use Rattle.shares.specs.declared.Share.{Share}
-use Rattle.shares.specs.declared.Share.TheVariants.{Masked, Units}
 use Rattle.shares.specs.Shares.{sum, lookup}
 use Rattle.stealing.specs.Stealing.{otherwise, over_share}
 use Rattle.note_book.specs.Book.{Slot, empty, note, is_of, is_note, notes_on}
@@ -28,9 +27,9 @@ sum_by n [] = 0
 sum_by n (e ∷ q) = n e.channel + sum_by n q
 
 -- an unmasked channel has more than its share
-abbrev pub IsOver : Share → ℕ → Type 0
-IsOver Masked n = ⊥
-IsOver (Units u) n = u < n
+abbrev pub IsOver : prelude.Option ℕ → ℕ → Type 0
+IsOver None n = ⊥
+IsOver (Some u) n = u < n
 
 -- ---- the channel to steal from
 
@@ -51,7 +50,7 @@ unfolding listed lookup
 unlisted_masked d [] m u h = h
 unlisted_masked d (x ∷ q) m u h = go (eqb d x.channel) u h (unlisted_masked d q m)
   where
-    go : (b : Bool) → b || listed d q ≡ false → IsOver (if b then Units x.value else lookup d q) m
+    go : (b : Bool) → b || listed d q ≡ false → IsOver (if b then Some x.value else lookup d q) m
         → (listed d q ≡ false → IsOver (lookup d q) m → ⊥) → ⊥
     go true u h ih = true≢false u
     go false u h ih = ih u h
@@ -63,11 +62,11 @@ over_some n [] d u e = absurd (none-ne-some d e)
 over_some n (x ∷ q) d u e = go (over_share n q) refl (ltb x.value (n x.channel)) refl e (over_some n q d u.1)
   where
     here : x.channel ≡ d → x.value < n x.channel
-        → IsOver (if eqb d x.channel then Units x.value else lookup d q) (n d)
+        → IsOver (if eqb d x.channel then Some x.value else lookup d q) (n d)
     here h l = rw (eq-eqb d x.channel (sym h)) (rw (← h) l)
 
     there : (b : Bool) → eqb d x.channel ≡ b → IsOver (lookup d q) (n d)
-        → IsOver (if b then Units x.value else lookup d q) (n d)
+        → IsOver (if b then Some x.value else lookup d q) (n d)
     there true eb l =
         absurd (unlisted_masked d q (n d) (ap (λ (y : ℕ). listed y q) (eqb-true d x.channel eb) ∙ u.0) l)
     there false eb l = l
@@ -75,7 +74,7 @@ over_some n (x ∷ q) d u e = go (over_share n q) refl (ltb x.value (n x.channel
     go : (o : Option ℕ) → over_share n q ≡ o → (b : Bool) → ltb x.value (n x.channel) ≡ b
         → otherwise o (if b then some x.channel else none) ≡ some d
         → (over_share n q ≡ some d → IsOver (lookup d q) (n d))
-        → IsOver (if eqb d x.channel then Units x.value else lookup d q) (n d)
+        → IsOver (if eqb d x.channel then Some x.value else lookup d q) (n d)
     go (some y) eo b eb e ih = there (eqb d x.channel) refl (ih (eo ∙ e))
     go none eo true eb e ih = here (cc) (ltb-true x.value (n x.channel) eb)
     go none eo false eb e ih = absurd (none-ne-some d e)

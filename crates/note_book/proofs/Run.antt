@@ -2,7 +2,7 @@
 -- reports (`Lawful`). In a run the channel that keeps within its share goes on doing so: only its own note-ons add to
 -- its notes, and each is counted before it is answered.
 -- Assumes nothing.
-use Rattle.std.specs.Prelude.{if◌then◌else◌}
+use Rattle.std.specs.Prelude.{if◌then◌else◌, Option, Some, None}
 use mathlib.Core.Path.{◌≡◌, refl, sym, ap, ◌∙◌, subst}
 use mathlib.Core.Bool.{Bool, true, false, not, ◌&&◌, false≢true}
 use mathlib.Core.List.{List, [], ◌∷◌}
@@ -19,8 +19,6 @@ use Rattle.message.specs.declared.Message.TheVariants.{NoteOn, NoteOff, Control,
 use Rattle.table.specs.declared.Table.{Table}
 use Rattle.table.specs.Laws.{WellFormed}
 use Rattle.table.specs.Table.{entries_of}
-use Rattle.shares.specs.declared.Share.{Share}
-use Rattle.shares.specs.declared.Share.TheVariants.{Masked, Units}
 use Rattle.shares.specs.Shares.{is_masked}
 use Rattle.instrument.specs.declared.Instrument.{Instrument}
 use Rattle.instrument.specs.Instrument.{fresh}
@@ -161,17 +159,17 @@ fair_on b c k a (robbed g d u f e v) h = f
 fair_on b c k a (turned u f v) h = f
 
 -- at most its share, and more than its share
-clash : (x : Share) (m n : ℕ) → IsWithin x m → IsOver x n → n ≤ m → ⊥
-clash Masked m n h v l = h
-clash (Units u) m n h v l = omega arith
+clash : (x : Option ℕ) (m n : ℕ) → IsWithin x m → IsOver x n → n ≤ m → ⊥
+clash None m n h v l = h
+clash (Some u) m n h v l = omega arith
 
-within_less : (x : Share) (m n : ℕ) → n ≤ m → IsWithin x m → IsWithin x n
-within_less Masked m n l h = h
-within_less (Units u) m n l h = omega arith
+within_less : (x : Option ℕ) (m n : ℕ) → n ≤ m → IsWithin x m → IsWithin x n
+within_less None m n l h = h
+within_less (Some u) m n l h = omega arith
 
-within_unmasked : (x : Share) (m : ℕ) → IsWithin x m → is_masked x ≡ true → ⊥
-within_unmasked Masked m h e = h
-within_unmasked (Units u) m h e = false≢true e
+within_unmasked : (x : Option ℕ) (m : ℕ) → IsWithin x m → is_masked x ≡ true → ⊥
+within_unmasked None m h e = h
+within_unmasked (Some u) m h e = false≢true e
 
 -- channel c keeps within its share, and a note-on of channel d comes
 module _ (b : Book) (c d k : ℕ) (w : IsWithin (share_of b c) (notes_on b.polyphony c b.notes))

@@ -20,6 +20,7 @@ use Rattle.table.specs.declared.Table.{Table}
 use Rattle.table.specs.Laws.{WellFormed, Channels}
 use Rattle.table.specs.Table.{entries_of, listed}
 use Rattle.table.proofs.Start.{start_entries, start_well_formed}
+use Rattle.refusals.specs.declared.Refusal.TheVariants as refusal
 use Rattle.shares.specs.Shares.{shares_from, lookup, is_masked, is_channel}
 use Rattle.shares.specs.Shares as of-table
 use Rattle.shares.proofs.Shares.{masked_unlisted, shares-channels}
@@ -417,8 +418,8 @@ step_report i b m g = go (leb i.polyphony g) (is_idle (at i.generators g))
     ended = replied Done (with_generators i (silenced (leaving.One g) i.generators))
 
     go : (x y : Bool)
-        → Matches (if x then replied (Number 12) i else if y then replied (Number 13) i else ended).instrument
-        (keep_report b g (if x then replied (Number 12) i else if y then replied (Number 13) i else ended).answer)
+        → Matches (if x then replied (Number refusal.NoGenerator) i else if y then replied (Number refusal.IdleGenerator) i else ended).instrument
+        (keep_report b g (if x then replied (Number refusal.NoGenerator) i else if y then replied (Number refusal.IdleGenerator) i else ended).answer)
     go true y = m
     go false true = m
     go false false =

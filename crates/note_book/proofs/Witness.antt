@@ -4,6 +4,7 @@
 -- not the device, say what becomes of a note stand in crate `witnesses`, so that they are computed once and not for
 -- each wrong answer.
 -- Assumes nothing.
+use Rattle.std.specs.Prelude.{Some}
 use mathlib.Core.Path.{◌≡◌, refl, sym, ap, ◌∙◌}
 use mathlib.Core.Bool.{Bool, true, false, not, ◌&&◌, ◌||◌, false≢true}
 use mathlib.Core.List.{List, [], ◌∷◌, ◌++◌}
@@ -14,7 +15,7 @@ use lib.Dec.{eqb}
 use Rattle.loops.specs.Passes.{total, first_of}
 use Rattle.drums.specs.Drums.{group_of, excludes}
 use Rattle.table.specs.declared.Entry.{Entry}
-use Rattle.shares.specs.declared.Share.TheVariants.{Units}
+use Rattle.refusals.specs.declared.Refusal.TheVariants as refusal
 use Rattle.shares.specs.Shares.{is_masked}
 use Rattle.generators.specs.Generators.{at, is_idle}
 use Rattle.allocation.specs.declared.Was.{Was}
@@ -37,7 +38,7 @@ use Rattle.note_book.proofs.Demand3.{demand_3}
 -- ---- the words, whatever the device
 
 -- all of the share may be used
-pub whole-share : (u n : ℕ) → n ≤ u → IsWithin (Units u) n
+pub whole-share : (u n : ℕ) → n ≤ u → IsWithin (Some u) n
 whole-share u n h = h
 
 -- an accepted MIP message and an accepted reset end a run, and nothing else does
@@ -135,7 +136,7 @@ pub answer-foretold : (order : List ℕ) (b : Book) (a : Answer) (c k : ℕ) →
 answer-foretold order b a c k f = f.full
 
 pub mask_foretold : (order : List ℕ) (b : Book) (a : Answer) (c k : ℕ) → Foretold order b a c k
-    → is_masked (of-book.share_of b c) ≡ true → a ≡ NoNote 10 c k
+    → is_masked (of-book.share_of b c) ≡ true → a ≡ NoNote refusal.Masked c k
 mask_foretold order b a c k f = f.masked
 
 -- a note on the pedal goes before one that is down, however old that is; and a key goes where none is on the pedal

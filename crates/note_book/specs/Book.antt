@@ -1,6 +1,6 @@
 -- The note book (section 9 of docs/RULES.md). R9.1: it is kept from messages, reports and answers; nothing that it is
 -- made of looks at the device's record.
-use Rattle.std.specs.Prelude.{ℕ, ◌+◌, Bool, true, false, not, ◌&&◌, ◌||◌, List, map, eqb, leb, drop, if◌then◌else◌}
+use Rattle.std.specs.Prelude.{ℕ, ◌+◌, Bool, true, false, not, ◌&&◌, ◌||◌, List, map, eqb, leb, drop, if◌then◌else◌, Option}
 use Rattle.loops.specs.Cases.{differ, bit}
 use Rattle.loops.specs.Passes.{total}
 use Rattle.splitter.specs.declared.Parser.{Parser}
@@ -12,7 +12,6 @@ use Rattle.message.specs.declared.Message.TheVariants.{NoteOn, NoteOff, Control,
 use Rattle.message.specs.Message.{decode}
 use Rattle.table.specs.declared.Entry.{Entry}
 use Rattle.table.specs.Table.{entry, start_order}
-use Rattle.shares.specs.declared.Share.{Share}
 use Rattle.shares.specs.Shares.{shares_from, lookup, is_masked}
 use Rattle.channels.specs.Channel.{rhythm_by}
 use Rattle.sysex.specs.declared.Kind.{Kind}
@@ -140,7 +139,7 @@ abbrev pub start_book : ℕ → ℕ → Answer → Book
 start_book p id a = if is_done a then fresh_book p id else fresh_book 1 0
 
 -- R9.3: masks and shares by the table and P
-abbrev pub share_of : Book → ℕ → Share
+abbrev pub share_of : Book → ℕ → Option ℕ
 share_of b c = lookup c (shares_from b.polyphony 0 b.table)
 
 -- R5.12, R6.3: the rhythm channels, and a pedal that is down

@@ -1,11 +1,9 @@
 -- The one claim about every list of bytes and reports, which device and book take side by side: R10.1 to R10.9.
 use Rattle.std.specs.Prelude.{ℕ, ◌≤◌, ◌<◌, ◌≡◌, Bool, true, false, not, ◌&&◌, ◌||◌, if◌then◌else◌}
-use Rattle.std.specs.Prelude.{List, [], ◌∷◌, ◌++◌, eqb}
+use Rattle.std.specs.Prelude.{List, [], ◌∷◌, ◌++◌, eqb, Option, Some, None}
 use Rattle.splitter.specs.declared.Parser.{Parser}
 use Rattle.splitter.specs.Split.{quiet}
 use Rattle.message.specs.declared.Message.TheVariants.{NoteOn, NoteOff, Control, Program, Bend, Other}
-use Rattle.shares.specs.declared.Share.{Share}
-use Rattle.shares.specs.declared.Share.TheVariants.{Masked, Units}
 use Rattle.shares.specs.Shares.{is_masked}
 use Rattle.generators.specs.Generators.{Generator, at, is_idle, is_held, is_sustained}
 use Rattle.allocation.specs.Allocation.{is_stolen}
@@ -23,9 +21,9 @@ use Rattle.note_book.specs.Book.{event_heard, splitter_after, keep}
 -- ---- what is claimed at a note-on of channel c and key k with answer a
 
 -- R10.6: at most the share of an unmasked channel; a masked one has no claim
-abbrev pub IsWithin : Share → ℕ → Type 0
-IsWithin Masked n = ⊥
-IsWithin (Units u) n = n ≤ u
+abbrev pub IsWithin : Option ℕ → ℕ → Type 0
+IsWithin None n = ⊥
+IsWithin (Some u) n = n ≤ u
 
 -- R9.7: the note that leaves as stolen
 abbrev pub stolen_note : Book → ℕ → ℕ → Answer → Slot

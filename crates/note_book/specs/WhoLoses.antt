@@ -3,6 +3,7 @@ use Rattle.std.specs.Prelude.{ℕ, ◌+◌, ◌≡◌, false, true, ◌&&◌, Li
 use Rattle.std.proofs.Math.Option.{Option, some, none}
 use Rattle.loops.specs.Cases.{bit}
 use Rattle.loops.specs.Passes.{first_of}
+use Rattle.refusals.specs.declared.Refusal.TheVariants as refusal
 use Rattle.shares.specs.Shares.{shares_from, is_masked}
 use Rattle.stealing.specs.Stealing.{otherwise, over_share}
 use Rattle.allocation.specs.declared.Was.TheVariants.{Stolen}
@@ -40,14 +41,14 @@ goes b order c = paid_by b.notes order (payer b c)
 -- R5.9, R5.10: the answer then: stolen or, where no note goes, number 11
 abbrev pub loss_answer : ℕ → ℕ → Option ℕ → Answer
 loss_answer c k (some g) = Note c k g Stolen
-loss_answer c k none = NoNote 11 c k
+loss_answer c k none = NoNote refusal.NothingToSteal c k
 
 -- ---- what is claimed at a note-on of channel c and key k with answer a
 
 -- R10.11: wherever a note is lost the answer is the one on paper: number 10 on a masked channel, and on another where
 -- every generator has a note and the new one ends none
 pub record Foretold (order : List ℕ) (b : Book) (a : Answer) (c k : ℕ) : Type 0 where
-  pub masked : is_masked (share_of b c) ≡ true → a ≡ NoNote 10 c k
+  pub masked : is_masked (share_of b c) ≡ true → a ≡ NoNote refusal.Masked c k
   pub full : is_masked (share_of b c) ≡ false → IsFull b c k → a ≡ loss_answer c k (goes b order c)
 
 -- R10.12: a note that is down leaves as stolen only where its channel, d, has none on the pedal
