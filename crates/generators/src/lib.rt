@@ -41,40 +41,31 @@ impl Generators {
     pub fn silent() -> Self
         ensures { result ≡ silent }
     {
-        // The order of age is empty.
-        let nobody = Ages {
-            count: 0,
-            generator: [0; 64],
-        };
         Generators {
             state: [IDLE; 64],
             channel: [0; 64],
             key: [0; 64],
-            ages: nobody,
+            ages: Ages {
+                count: 0,
+                generator: [0; 64],
+            },
         }
     }
 
     // Generator g holds the note, and is the newest.
+    #[tactic(auto, unfolding(crate::specs::Generators::assigned))]
     pub fn assign(self, g: u8, channel: u8, key: u8) -> Self
         ensures { result ≡ assigned g channel key self }
     {
-        let at = g as usize;
-        if 64 <= at {
+        if 64 <= g {
             return self;
         }
-        let mut state = self.state;
-        let mut channels = self.channel;
-        let mut keys = self.key;
-        let order = self.ages;
-        let after = order.newest(g);
-        state[at] = HELD;
-        channels[at] = channel;
-        keys[at] = key;
-        Generators {
-            state: state,
-            channel: channels,
-            key: keys,
-            ages: after,
-        }
+        let at = usize::from(g);
+        let mut next = self;
+        next.state[at] = HELD;
+        next.channel[at] = channel;
+        next.key[at] = key;
+        next.ages = self.ages.newest(g);
+        next
     }
 }
