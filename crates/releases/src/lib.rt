@@ -9,6 +9,7 @@ ghost use Rattle.releases.specs.Releases.{changes, key_up, state_after, changed}
 ghost use Rattle.releases.specs.Selection.{is_one_of, selects};
 
 use generators::Generators;
+use std::array;
 
 // What happens to the notes of a channel.
 #[derive(Clone, Copy)]
@@ -114,10 +115,20 @@ fn is_one_of(keys: Keys, key: u8) -> bool
 fn selects(w: Selection, state: u8, channel: u8, key: u8) -> bool
     ensures { result ≡ selects w (generator state channel key) }
 {
-    let keys = w.keys;
     let is_state = (w.held & (state == generators::HELD))
         | (w.sustained & (state == generators::SUSTAINED));
-    (is_state & (channel == w.channel)) & is_one_of(keys, key)
+    (is_state & (channel == w.channel)) & is_one_of(w.keys, key)
+}
+
+// The state of a generator afterwards: another, if it is selected.
+fn moved(w: Selection, to: u8, state: u8, channel: u8, key: u8) -> u8
+    ensures { result ≡ (if selects w (generator state channel key) then to else state) }
+{
+    if selects(w, state, channel, key) {
+        to
+    } else {
+        state
+    }
 }
 
 // The states after the selected generators went to another.
@@ -131,24 +142,22 @@ fn states_after(
     ensures { result ≡ up_to (λ g. if selects w (generator (get_or state g 0) (get_or channel g 0) (get_or keys g 0))
         then to else get_or state g 0) 64 }
 {
-    let mut out = state;
-    let mut i: usize = 0;
-    while i < 64 {
-        out[i] = loops::if_else(selects(w, state[i], channel[i], keys[i]), to, state[i]);
-        i += 1;
-    }
-    out
+    array::from_fn(|i| moved(w, to, state[i], channel[i], keys[i]))
 }
 
 // The generators after a change.
 pub fn apply(generators: Generators, change: Change) -> Generators
     ensures { result ≡ changed change generators }
 {
-    let state = generators.state;
-    let channel = generators.channel;
-    let keys = generators.key;
-    let after = states_after(state, channel, keys, select(change), state_after(change));
-    let mut next = generators;
-    next.state = after;
-    next
+    let state = states_after(
+        generators.state,
+        generators.channel,
+        generators.key,
+        select(change),
+        state_after(change),
+    );
+    Generators {
+        state,
+        ..generators
+    }
 }

@@ -13,7 +13,7 @@ pub returns : goal.returns
 unfolding changed
 returns c =
     let a = c.args in
-    simp (c.states_after-after.ensures, c.state_after.ensures)
+    simp (c.states_after-state.ensures, c.state_after.ensures)
     (ap (with_states a.generators)
     (up_to-same _ _ 64 (λ g k. ap (λ (b : Bool). if b then state_after a.change else (at a.generators g).state)
     (c.select.ensures (at a.generators g)))))
