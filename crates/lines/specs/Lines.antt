@@ -1,12 +1,11 @@
 -- R16.3: the line of an answer, in ASCII: its fields with commas between them.
-use Rattle.std.specs.Prelude.{ℕ, zero, suc, List, [], ◌∷◌, ◌++◌}
+use Rattle.std.specs.Prelude.{Option, Some, None, ℕ, zero, suc, List, [], ◌∷◌, ◌++◌}
+use Rattle.refusals.specs.Refusals.{number}
 use Rattle.text.specs.Text.{decimal}
 use Rattle.allocation.specs.declared.Was.{Was}
 use Rattle.allocation.specs.declared.Was.TheVariants.{Idle, Release, Stolen}
 use Rattle.playing.specs.declared.Answer.{Answer}
 use Rattle.playing.specs.declared.Answer.TheVariants.{Nothing, Done, Note, NoNote, Number}
-use Rattle.lines.specs.declared.Offset.{Offset}
-use Rattle.lines.specs.declared.Offset.TheVariants.{At, Nowhere}
 
 -- a comma and a number
 unfoldable pub field : ℕ → List ℕ
@@ -30,9 +29,9 @@ dashes zero = 10 ∷ []
 dashes (suc n) = 44 ∷ 45 ∷ dashes n
 
 -- the first field; a start and a report have no offset
-abbrev pub offset_field : Offset → List ℕ
-offset_field (At n) = decimal n
-offset_field Nowhere = 45 ∷ []
+abbrev pub offset_field : Option ℕ → List ℕ
+offset_field (Some n) = decimal n
+offset_field None = 45 ∷ []
 
 -- what follows the offset, for a note and, R16.4, for a note-on without a generator
 abbrev pub note_fields : ℕ → ℕ → ℕ → Was → List ℕ
@@ -42,9 +41,9 @@ abbrev pub no_note_fields : ℕ → ℕ → ℕ → List ℕ
 no_note_fields n c k = field n ++ field c ++ field k ++ dashes 2
 
 -- R16.3: a line; R16.5: none has no line
-unfoldable pub line_of : Offset → Answer → List ℕ
+unfoldable pub line_of : Option ℕ → Answer → List ℕ
 line_of o Nothing = []
 line_of o Done = offset_field o ++ (done ++ dashes 4)
 line_of o (Note c k g w) = offset_field o ++ note_fields c k g w
-line_of o (NoNote n c k) = offset_field o ++ no_note_fields n c k
-line_of o (Number n) = offset_field o ++ (field n ++ dashes 4)
+line_of o (NoNote r c k) = offset_field o ++ no_note_fields (number r) c k
+line_of o (Number r) = offset_field o ++ (field (number r) ++ dashes 4)

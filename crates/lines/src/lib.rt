@@ -9,29 +9,22 @@ use allocation::Was;
 use playing::Answer;
 use text::{put, put_number};
 
-// A line's first field.
-#[derive(Clone, Copy)]
-pub enum Offset {
-    // The offset of the byte that completed what the line tells, 0 for the first MIDI byte.
-    At(u64),
-    // None: a start and a report have no byte.
-    Nowhere,
-}
-
 // A comma and a number.
 pub fn put_field(page: &mut [u8], at: usize, n: u8) -> usize
     ensures { Put page.old at (field n) result page.new }
 {
     let k = put(page, at, b",");
-    put_number(page, k, n as u64)
+    put_number(page, k, u64::from(n))
 }
 
-fn put_offset(page: &mut [u8], at: usize, o: Offset) -> usize
+// A line's first field: the offset of the byte that completed what the line tells, 0 for the first MIDI byte; a start
+// and a report have none.
+fn put_offset(page: &mut [u8], at: usize, o: Option<u64>) -> usize
     ensures { Put page.old at (offset_field o) result page.new }
 {
     match o {
-        Offset::At(n) => put_number(page, at, n),
-        Offset::Nowhere => put(page, at, b"-"),
+        Some(n) => put_number(page, at, n),
+        None => put(page, at, b"-"),
     }
 }
 
@@ -65,7 +58,7 @@ fn put_no_note(page: &mut [u8], at: usize, number: u8, channel: u8, key: u8) -> 
 }
 
 // The line of an answer; none for an answer that says nothing.
-pub fn put_line(page: &mut [u8], at: usize, o: Offset, a: Answer) -> usize
+pub fn put_line(page: &mut [u8], at: usize, o: Option<u64>, a: Answer) -> usize
     ensures { Put page.old at (line_of o a) result page.new }
 {
     match a {
@@ -78,13 +71,13 @@ pub fn put_line(page: &mut [u8], at: usize, o: Offset, a: Answer) -> usize
             let k = put_offset(page, at, o);
             put_note(page, k, channel, key, g, w)
         }
-        Answer::NoNote(number, channel, key) => {
+        Answer::NoNote(refusal, channel, key) => {
             let k = put_offset(page, at, o);
-            put_no_note(page, k, number, channel, key)
+            put_no_note(page, k, refusal.number(), channel, key)
         }
-        Answer::Number(number) => {
+        Answer::Number(refusal) => {
             let k = put_offset(page, at, o);
-            let m = put_field(page, k, number);
+            let m = put_field(page, k, refusal.number());
             put(page, m, b",-,-,-,-\n")
         }
     }

@@ -7,4 +7,4 @@ use Rattle.lines.proofs.put_field.Goals as goal
 pub returns : goal.returns
 unfolding field
 returns c =
-    joined c.put-k.ensures c.put_number.ensures
+    joined c.put-k.ensures (rw c.from.ensures at c.put_number.ensures)

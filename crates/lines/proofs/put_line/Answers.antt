@@ -24,11 +24,11 @@ pub returns-in-NoNote : goal.returns-in-NoNote
 unfolding line_of
 returns-in-NoNote c = rw c.in-NoNote.is
     (joined c.put_offset-k-in-NoNote.ensures
-    c.put_no_note.ensures)
+    (rw c.number.ensures at c.put_no_note.ensures))
 
 pub returns-in-Number : goal.returns-in-Number
 unfolding line_of
 returns-in-Number c = rw c.in-Number.is
     (joined c.put_offset-k-in-Number.ensures
-    (joined c.put_field-m.ensures
+    (joined (rw c.number-in-Number.ensures at c.put_field-m.ensures)
     c.put-in-Number.ensures))
