@@ -8,6 +8,7 @@ ghost use Rattle.std.specs.Prelude.{◌≡◌, length, ◌≤◌, min};
 ghost use Rattle.console.specs.Console.{Reads, Writes};
 
 use std::io::{Read, Write};
+use std::ops::ControlFlow;
 
 // So many calls in a row that move nothing are an error. A signal interrupts a call once and no call a hundred times in
 // a row; an input that has no byte yet and does not wait for one (O_NONBLOCK) is an error that is said.
@@ -93,4 +94,76 @@ pub fn fail(rt: &HostRuntime, line: &[u8]) -> u32
 {
     let _ = write_all(&mut rt.stderr(), line);
     1
+}
+
+// ---- a program's loop
+
+// Reading or writing failed, or what was read is refused, which is told by the status.
+#[derive(Clone, Copy)]
+pub struct Failed;
+
+// A program that reads standard input and writes standard output: what it keeps from read to read, and what it writes,
+// out of a page that it is lent.
+pub trait Filter: Copy {
+    // Its name, which stands before an error.
+    const NAME: &'static [u8];
+
+    // Before the first read.
+    fn begin(&mut self, rt: &HostRuntime, page: &mut [u8]) -> Result<(), Failed> {
+        Ok(())
+    }
+
+    // The bytes of a read, and whether more are to be read.
+    fn take(
+        &mut self,
+        rt: &HostRuntime,
+        page: &mut [u8],
+        bytes: &[u8],
+    ) -> Result<ControlFlow<()>, Failed>;
+
+    // What the end of the input adds.
+    fn end(&mut self, rt: &HostRuntime, page: &mut [u8]) -> Result<(), Failed>;
+}
+
+// Tells an error, behind the program's name.
+fn tell(rt: &HostRuntime, name: &[u8], what: &[u8]) -> Failed {
+    fail(rt, name);
+    fail(rt, what);
+    Failed
+}
+
+// Writes the first `used` bytes of the page to standard output.
+pub fn write_out(rt: &HostRuntime, name: &[u8], page: &[u8], used: usize) -> Result<(), Failed> {
+    write(rt, page, used).map_err(|_| tell(rt, name, b": standard output takes no more\n"))
+}
+
+// Writes an answer to standard error. If that fails there is no place to tell it, and the status alone says so.
+pub fn write_answer(rt: &HostRuntime, page: &[u8], used: usize) -> Result<(), Failed> {
+    write_error(rt, page, used).map_err(|_| Failed)
+}
+
+// Runs a program on an input of any length, which is read in parts that fit the input's buffer. A proved loop has to
+// end, so the reads are counted, up to a number that no input uses up. Nothing is answered for what could not be read:
+// the input did not end.
+pub fn run<F: Filter>(
+    rt: &HostRuntime,
+    mut filter: F,
+    input: &mut [u8],
+    page: &mut [u8],
+) -> Result<(), Failed> {
+    filter.begin(rt, page)?;
+    for _ in 0..u64::MAX {
+        let n = read(rt, input).map_err(|_| tell(
+            rt,
+            F::NAME,
+            b": standard input can't be read\n",
+        ))?;
+        if n == 0 {
+            return filter.end(rt, page);
+        }
+        if filter.take(rt, page, &input[..n])?.is_break() {
+            return Ok(());
+        }
+    }
+    Err(Failed)
 }

@@ -1,11 +1,12 @@
 // The programs that read standard input and write standard output, each as a function that answers its exit status, over
-// the runtime that a program's `main` is given. One loop reads for all of them, an input of any length, and what is known
-// is written before more is waited for; the answers to requests of songs, and of a log, go to standard error. What the
-// bytes answer is in crates `listed`, `pitch_lines`, `song_lines`, `log_lines` and `page_lines`. Assumes nothing.
+// the runtime that a program's `main` is given. What is known is written before more is waited for; the answers to
+// requests of songs, and of a log, go to standard error. The loop that reads is crate `console`'s, and what the bytes
+// answer is in crates `listed`, `pitch_lines`, `song_lines`, `log_lines` and `page_lines`. Assumes nothing.
 #![tactic(auto)]
 
 ghost use Rattle.std.specs.Prelude.{◌≤◌};
 
+use console::{Failed, Filter, write_answer, write_out};
 use fields::Line;
 use listed::Lister;
 use log_lines::Reading;
@@ -13,78 +14,12 @@ use song::SongAnswer;
 use song_lines::Request;
 use std::ops::ControlFlow;
 
-// Reading or writing failed, or what was read is refused, which is told by the status.
-#[derive(Clone, Copy)]
-struct Failed;
-
-// A program: what it keeps from read to read, and what it writes. The page is its buffer for that.
-trait Filter: Copy {
-    // Its name, which stands before an error.
-    const NAME: &'static [u8];
-
-    // Before the first read.
-    fn begin(&mut self, rt: &HostRuntime, page: &mut [u8]) -> Result<(), Failed> {
-        Ok(())
-    }
-
-    // The bytes of a read, and whether more are to be read.
-    fn take(
-        &mut self,
-        rt: &HostRuntime,
-        page: &mut [u8],
-        bytes: &[u8],
-    ) -> Result<ControlFlow<()>, Failed>;
-
-    // What the end of the input adds.
-    fn end(&mut self, rt: &HostRuntime, page: &mut [u8]) -> Result<(), Failed>;
-}
-
-// Tells an error, behind the program's name.
-fn tell(rt: &HostRuntime, name: &[u8], what: &[u8]) -> Failed {
-    console::fail(rt, name);
-    console::fail(rt, what);
-    Failed
-}
-
-// Writes what is answered.
-fn write_out(rt: &HostRuntime, name: &[u8], page: &[u8], used: usize) -> Result<(), Failed> {
-    console::write(rt, page, used).map_err(|_| tell(rt, name, b": standard output takes no more\n"))
-}
-
-// Writes the line of an answer to standard error. If that fails there is no place to tell it, and the status alone says
-// so.
-fn write_answer(rt: &HostRuntime, line: &[u8], used: usize) -> Result<(), Failed> {
-    console::write_error(rt, line, used).map_err(|_| Failed)
-}
-
-// ---- the loop
-
-// A proved loop has to end, so the reads are counted, up to a number that no input uses up. Nothing is answered for what
-// could not be read: the input did not end.
-fn read_all<F: Filter>(rt: &HostRuntime, filter: &mut F, page: &mut [u8]) -> Result<(), Failed> {
-    filter.begin(rt, page)?;
-    for _ in 0..u64::MAX {
-        let mut input = [0u8; 1024];
-        let n = console::read(rt, &mut input).map_err(|_| tell(
-            rt,
-            F::NAME,
-            b": standard input can't be read\n",
-        ))?;
-        if n == 0 {
-            return filter.end(rt, page);
-        }
-        if filter.take(rt, page, &input[..n])?.is_break() {
-            return Ok(());
-        }
-    }
-    Err(Failed)
-}
-
 // A byte lists no more than 128 bytes, and is answered by no more than 16, so the page has room for what a read of 1,024
 // calls for. It has room for the longest song too.
-fn run<F: Filter>(rt: &HostRuntime, mut filter: F) -> Result<(), Failed> {
+fn run<F: Filter>(rt: &HostRuntime, filter: F) -> Result<(), Failed> {
+    let mut input = [0u8; 1024];
     let mut page = [0u8; 131072];
-    read_all(rt, &mut filter, &mut page)
+    console::run(rt, filter, &mut input, &mut page)
 }
 
 // The exit status: 0, or 1 if the program failed.
