@@ -2,12 +2,13 @@
 // Assumes nothing.
 #![tactic(auto)]
 
-ghost use Rattle.std.specs.Prelude.{◌≡◌, eqb, get_or, if◌then◌else◌};
+ghost use Rattle.std.specs.Prelude.{◌≡◌, ◌<◌, eqb, get_or, if◌then◌else◌};
 ghost use Rattle.loops.specs.Passes.{up_to, marks_of};
 ghost use Rattle.generators.specs.Generators.{generator};
 ghost use Rattle.silence.specs.Silence.{leaves, silenced};
 
 use generators::Generators;
+use std::array;
 
 // The sounding generators that become idle.
 #[derive(Clone, Copy)]
@@ -39,10 +40,8 @@ fn marks(state: [u8; 64], channel: [u8; 64], keys: [u8; 64], leaving: Leaving) -
         (generator (get_or state g 0) (get_or channel g 0) (get_or keys g 0))) }
 {
     let mut out = [0u8; 256];
-    let mut i: usize = 0;
-    while i < 64 {
-        out[i] = loops::one(leaves(leaving, i as u8, state[i], channel[i], keys[i]));
-        i += 1;
+    for i in 0..64 {
+        out[i] = u8::from(leaves(leaving, i as u8, state[i], channel[i], keys[i]));
     }
     out
 }
@@ -51,32 +50,28 @@ fn marks(state: [u8; 64], channel: [u8; 64], keys: [u8; 64], leaving: Leaving) -
 fn unmarked(numbers: [u8; 64], marks: [u8; 256]) -> [u8; 64]
     ensures { result ≡ up_to (λ g. if eqb (get_or marks g 0) 0 then get_or numbers g 0 else 0) 64 }
 {
-    let mut out = numbers;
-    let mut i: usize = 0;
-    while i < 64 {
-        out[i] = loops::if_else(marks[i] == 0, numbers[i], 0);
-        i += 1;
-    }
-    out
+    array::from_fn(
+        |i|
+            requires { i < 64 }
+            ensures { result ≡ (if eqb (get_or marks i 0) 0 then get_or numbers i 0 else 0) }
+        { if marks[i] == 0 { numbers[i] } else { 0 } },
+    )
 }
 
 // Generators that become idle also leave the order of age.
 pub fn fall_silent(generators: Generators, leaving: Leaving) -> Generators
     ensures { result ≡ silenced leaving generators }
 {
-    let state = generators.state;
-    let channel = generators.channel;
-    let keys = generators.key;
-    let gone = marks(state, channel, keys, leaving);
-    let order = generators.ages;
-    let left = order.without(gone);
-    let states_left = unmarked(state, gone);
-    let channels_left = unmarked(channel, gone);
-    let keys_left = unmarked(keys, gone);
+    let gone = marks(
+        generators.state,
+        generators.channel,
+        generators.key,
+        leaving,
+    );
     Generators {
-        state: states_left,
-        channel: channels_left,
-        key: keys_left,
-        ages: left,
+        state: unmarked(generators.state, gone),
+        channel: unmarked(generators.channel, gone),
+        key: unmarked(generators.key, gone),
+        ages: generators.ages.without(gone),
     }
 }

@@ -9,10 +9,10 @@ pub returns : goal.returns
 returns c =
     let l = state_64 c.args.generators c.well_formed.0 in
     simp (
-      c.unmarked-keys_left.ensures,
-      c.unmarked-channels_left.ensures,
-      c.unmarked-states_left.ensures,
-      c.without-left.ensures,
+      c.unmarked.ensures,
+      c.unmarked-2.ensures,
+      c.unmarked-3.ensures,
+      c.without.ensures,
       c.marks-gone.ensures,
     )
     (silence_of c.args.leaving c.args.generators l)

@@ -15,17 +15,16 @@ use Rattle.silence.proofs.marks.Goals as goal
 
 pub loop-i-init : goal.loop-i-init
 unfolding up_to
-loop-i-init c = (omega arith, c.well_formed.0.1.0.1, refl)
+loop-i-init c = (c.well_formed.0.1.0.1, refl)
 
 pub loop-i-preserved : goal.loop-i-preserved
 loop-i-preserved c =
     let l = c.loop-i in
     let a = c.args in
-    let x = c.one.ensures.0 ∙ ap bit c.leaves.ensures in (
-      omega arith,
-      l.invariant.1,
+    let x = c.from.ensures ∙ ap bit c.leaves.ensures in (
+      l.invariant.0,
       fill_next (λ (g : ℕ). bit (rule a.state a.channel a.keys a.leaving g)) 0
-          (replicate 256 0) l.out l.i _ (room l.i (omega arith)) l.invariant.2 x,
+          (replicate 256 0) l.out l.i _ (room l.i (omega arith)) l.invariant.1 x,
     )
 
 pub returns : goal.returns
@@ -34,4 +33,4 @@ returns c =
     let a = c.args in
     let e : l.i ≡ 64 = omega arith in
     marks_end (rule a.state a.channel a.keys a.leaving) 64
-    (none_leaves a.leaving a.state a.channel a.keys l.invariant.1) 192 refl l.out (rw e at l.invariant.2)
+    (none_leaves a.leaving a.state a.channel a.keys l.invariant.0) 192 refl l.out (rw e at l.invariant.1)

@@ -1,7 +1,7 @@
 -- `silence::marks` meets its contract. Invariant: the first i marks are those of the rule, the others 0. From 64 on no
 -- generator leaves.
 -- Assumes nothing.
-use Prim.Native.Nat.{ℕ, ◌≤◌, ◌-◌}
+use Prim.Native.Nat.{ℕ}
 use mathlib.Core.Path.{◌≡◌}
 use mathlib.Core.Bool.{Bool}
 use mathlib.Core.List.{List, ◌++◌}
@@ -19,8 +19,5 @@ rule state channel keys leaving g =
     leaves leaving g (generator (get_or state g 0) (get_or channel g 0) (get_or keys g 0))
 
 abbrev pub invariant-loop-i : goal.invariant-loop-i
-invariant-loop-i l = (l.i ≤ 64) × (length l.state ≡ 64)
+invariant-loop-i l = (length l.state ≡ 64)
     × (l.out ≡ up_to (λ g. bit (rule l.state l.channel l.keys l.leaving g)) l.i ++ drop l.i (replicate 256 0))
-
-abbrev pub decreases-loop-i : goal.decreases-loop-i
-decreases-loop-i l = 64 - l.i

@@ -1,25 +1,15 @@
--- `silence::unmarked` meets its contract. Invariant: the first i numbers are those of the rule, the others as they
--- were.
+-- `silence::unmarked` meets its contract: each element that `from_fn` makes is that of the rule.
 -- Assumes nothing.
-use mathlib.Core.Path.{refl}
-use native.Mathlib.Omega.{arith}
-use Rattle.loops.specs.Passes.{up_to}
-use Rattle.loops.proofs.Fill.{fill_next, fill_end}
-use Rattle.silence.proofs.unmarked.Invariants.{rule}
+use Rattle.std.specs.Prelude.{if◌then◌else◌}
+use Rattle.std.proofs.Common.{rules, ℕ, List, eqb, get_or}
+use Rattle.loops.proofs.Fill.{made_up_to}
 use Rattle.silence.proofs.unmarked.Goals as goal
 
-pub loop-i-init : goal.loop-i-init
-unfolding up_to
-loop-i-init c = (omega arith, c.well_formed.0.1.0.1, refl)
-
-pub loop-i-preserved : goal.loop-i-preserved
-loop-i-preserved c =
-    let l = c.loop-i in
-    let a = c.args in (
-      omega arith,
-      l.invariant.1,
-      fill_next (rule a.numbers a.marks) 0 a.numbers l.out l.i _ (omega arith) l.invariant.2 c.if_else.ensures,
-    )
+-- the number of generator g afterwards
+abbrev rule : List ℕ → List ℕ → ℕ → ℕ
+rule numbers marks g = if eqb (get_or marks g 0) 0 then get_or numbers g 0 else 0
 
 pub returns : goal.returns
-returns c = let l = c.loop-i in fill_end _ _ _ _ 64 (omega arith) (omega arith) l.invariant.2
+returns c =
+    made_up_to _ _ (rule c.args.numbers c.args.marks) (λ i y q k. (search rules, k.met.1)) 0 _ 64
+    c.from_fn.ensures.items
