@@ -1,18 +1,14 @@
 -- What an ended SysEx does to the sound module, and what it answers (R2.7, R2.8, section 3 of docs/RULES.md).
-use Rattle.std.specs.Prelude.{ℕ, List, drop}
-use Rattle.std.proofs.Math.Option.{Option, some, none}
+use Rattle.std.specs.Prelude.{ℕ, List, drop, Result, Ok, Err}
+use Rattle.refusals.specs.declared.Refusal.{Refusal}
 use Rattle.table.specs.declared.Table.{Table}
 use Rattle.sysex.specs.declared.Kind.{Kind}
 use Rattle.sysex.specs.declared.Kind.TheVariants.{Mip, SystemOn, Other}
 use Rattle.sysex.specs.SysEx.{kind_of}
-use Rattle.mip.specs.declared.Verdict.{Verdict}
-use Rattle.mip.specs.declared.Verdict.TheVariants.{Accepted, Refused}
 use Rattle.mip.specs.Mip.{judged}
-use Rattle.mip.specs.Mip as judging
 use Rattle.instrument.specs.declared.Instrument.{Instrument}
 use Rattle.instrument.specs.Instrument.{fresh, with_table, with_generators}
 use Rattle.masking.specs.Masking.{masked}
-use Rattle.playing.specs.declared.Answer.{Answer}
 use Rattle.playing.specs.declared.Answer.TheVariants as answer
 use Rattle.playing.specs.declared.Reply.{Reply}
 use Rattle.playing.specs.Playing.{replied}
@@ -21,18 +17,13 @@ use Rattle.playing.specs.Playing.{replied}
 unfoldable pub new_table : Instrument → Table → Instrument
 new_table i t = with_table (with_generators i (masked i.polyphony i.table t i.generators)) t
 
--- a number as an answer, and none where there is none
-abbrev pub answer_of : Option ℕ → Answer
-answer_of none = answer.Nothing
-answer_of (some n) = answer.Number n
-
-abbrev pub judged_reply : Instrument → Verdict → Table → Reply
-judged_reply i Accepted t = replied answer.Done (new_table i t)
-judged_reply i (Refused n) t = replied (answer_of (judging.number_of (Refused n))) i
+abbrev pub judged_reply : Instrument → Result Table Refusal → Reply
+judged_reply i (Ok t) = replied answer.Done (new_table i t)
+judged_reply i (Err r) = replied (answer.Number r) i
 
 -- R3.3: a MIP message for us by its data bytes, of which the first four are its head; refused, it leaves the table
 unfoldable pub mip_taken : Instrument → List ℕ → Reply
-mip_taken i l = judged_reply i (judged (drop 4 l)).verdict (judged (drop 4 l)).table
+mip_taken i l = judged_reply i (judged (drop 4 l))
 
 -- an ended SysEx; R3.6: GM System On gives a fresh record with the same P and own ID; R3.7: any other answers none
 abbrev pub kind_reply : Instrument → List ℕ → Kind → Reply

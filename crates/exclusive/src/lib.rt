@@ -7,43 +7,39 @@ ghost use Rattle.splitter.specs.Split.{body};
 ghost use Rattle.exclusive.specs.Exclusive.{new_table, mip_taken, exclusive};
 
 use instrument::Instrument;
-use mip::Verdict;
 use playing::{Answer, Reply};
 use splitter::Parser;
 use sysex::Kind;
 use table::Table;
 
 // An accepted MIP message: its table replaces the old one, and newly masked channels give way.
-fn new_table(i: Instrument, t: Table) -> Instrument
-    ensures { result ≡ new_table i t }
+#[tactic(auto, unfolding(crate::specs::Exclusive::new_table))]
+fn new_table(i: Instrument, table: Table) -> Instrument
+    ensures { result ≡ new_table i table }
 {
-    let old = i.table;
-    let s = i.generators;
-    let after = masking::mask(s, i.polyphony, old, t);
-    let mut next = i;
-    next.table = t;
-    next.generators = after;
-    next
+    Instrument {
+        table,
+        generators: masking::mask(i.generators, i.polyphony, i.table, table),
+        ..i
+    }
 }
 
+#[tactic(auto, unfolding(crate::specs::Exclusive::mip_taken))]
 fn mip(i: Instrument, p: Parser) -> Reply
     ensures { result ≡ mip_taken i (body p) }
 {
-    let j = mip::judge(p);
-    let t = j.table;
-    let v = j.verdict;
-    match v {
-        Verdict::Accepted => Reply::new(Answer::Done, new_table(i, t)),
-        Verdict::Refused(n) => Reply::new(Answer::Number(n), i),
+    match mip::judge(p) {
+        Ok(table) => Reply::new(Answer::Done, new_table(i, table)),
+        Err(refusal) => Reply::new(Answer::Number(refusal), i),
     }
 }
 
 // An ended SysEx, whose data bytes are those of parser p.
+#[tactic(auto, unfolding(crate::specs::Exclusive::exclusive))]
 pub fn take(i: Instrument, p: Parser) -> Reply
     ensures { result ≡ exclusive i (body p) }
 {
-    let k = sysex::kind_of(p, i.id);
-    match k {
+    match sysex::kind_of(p, i.id) {
         Kind::Mip => mip(i, p),
         Kind::SystemOn => Reply::new(Answer::Done, Instrument::fresh(i.polyphony, i.id)),
         Kind::Other => Reply::new(Answer::Nothing, i),
