@@ -53,17 +53,12 @@ fn three(n: u8) -> [u8; 3]
 fn standing_of(t: Table, c: u8) -> Option<Standing>
     ensures { result ≡ standing_from 1 c (entries_of t) }
 {
-    let n = t.count.min(16);
-    for k in 0..n {
-        let e = t.entries[k as usize];
-        if c == e.channel {
-            return Some(Standing {
-                place: k + 1,
-                value: e.value,
-            });
-        }
-    }
-    None
+    let listed = &t.entries[..usize::from(t.count.min(16))];
+    let k = listed.iter().position(|e| c == e.channel)?;
+    Some(Standing {
+        place: k as u8 + 1,
+        value: listed[k].value,
+    })
 }
 
 fn place_field(at: Option<Standing>) -> [u8; 2]

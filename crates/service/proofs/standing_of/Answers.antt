@@ -1,42 +1,49 @@
--- `service::standing_of` meets its contract. Invariant: the place and value that the channel finds in the entries from
--- k on, the first of which has place k + 1, are those that it finds in all of them.
+-- `service::standing_of` meets its contract: `position` finds the first entry that is the channel's.
 -- Assumes nothing.
-use mathlib.Core.Path.{◌≡◌, ap, ◌∙◌}
+use Rattle.std.proofs.Common.{rules}
+use Rattle.std.specs.Prelude.{Some, None, cond}
+use Rattle.std.specs.List.{position_or_len}
+use Rattle.std.proofs.lemmas.Iterator.{YieldsList-from_slice}
+use Rattle.std.proofs.lemmas.Iterator.Search.{position_from_yields_List}
+use mathlib.Core.Path.{◌≡◌, sym, ap, ◌∙◌}
 use mathlib.Core.List.{List}
-use native.Mathlib.Omega.{arith}
-use borrow.Author.Tests.{eq-eqb, ne_eqb}
-use lib.ListN.{take}
+use Prim.Native.Nat.{ℕ}
+use borrow.Author.Tests.{tests}
+use lib.Dec.{ltb}
+use lib.ListN.{length, take}
 use Rattle.table.specs.declared.Entry.{Entry}
-use Rattle.table.specs.Table.{entries_of}
+use Rattle.table.specs.Table.{entry, entries_of}
 use Rattle.table.proofs.Sizes.{entries_16}
 use Rattle.table.proofs.Walk.{all_entries}
 use Rattle.service.specs.Page.{standing_from}
-use Rattle.service.proofs.Walk.{standing_here, standing_next, standing_end}
+use Rattle.service.proofs.Walk.{is_its, standing_place, found_none, found_some}
 use Rattle.service.proofs.standing_of.Goals as goal
 
-pub returns-then-c-e : goal.returns-then-c-e
-returns-then-c-e c =
-    let n = c.min-n in
-    let t = c.args.t in
-    let long = entries_16 t c.well_formed.0 in
-    let all : take n.result t.entries ≡ entries_of t = all_entries t n.result long n.ensures in
-    standing_here t.entries n.result c.loop-k.k _ c.args.c _
-    c.loop-k-test.true (omega arith) c.loop-k.invariant (eq-eqb _ _ c.if-c-e.true)
-    ∙ ap (λ (l : List Entry). standing_from 1 c.args.c l) all
-
-pub loop-k-preserved : goal.loop-k-preserved
-loop-k-preserved c =
-    let n = c.min-n in
-    let t = c.args.t in
-    let long = entries_16 t c.well_formed.0 in
-    standing_next t.entries n.result c.loop-k.k _ c.args.c _
-    c.loop-k-test.true (omega arith) c.loop-k.invariant (ne_eqb _ _ c.if-c-e.false)
+pub returns-in_err-k : goal.returns-in_err-k
+returns-in_err-k c =
+    let a = c.args in
+    let l : List Entry = take c.from.result a.t.entries in
+    let i : ℕ = position_or_len (is_its a.c) l in
+    let told : c.position.result ≡ cond (ltb i (length l)) (Some i) None =
+    position_from_yields_List (is_its a.c) _ _ c.position.result c.position.ensures.ran
+    (YieldsList-from_slice l cc) (λ x b q k. search (rules, tests)) in
+    let all : l ≡ entries_of a.t =
+    all_entries a.t c.from.result (entries_16 a.t c.well_formed.0) (c.from.ensures ∙ c.min.ensures) in
+    c.from_residual.ensures
+    ∙ sym (found_none 1 l (entry 0 0) i (sym told ∙ c.in_err-k.was))
+    ∙ sym (standing_place a.c (entry 0 0) 1 l)
+    ∙ ap (standing_from 1 a.c) all
 
 pub returns : goal.returns
 returns c =
-    let n = c.min-n in
-    let t = c.args.t in
-    let long = entries_16 t c.well_formed.0 in
-    let all : take n.result t.entries ≡ entries_of t = all_entries t n.result long n.ensures in
-    standing_end t.entries n.result c.loop-k.k _ c.args.c _ c.loop-k-test.false c.loop-k.invariant
-    ∙ ap (λ (l : List Entry). standing_from 1 c.args.c l) all
+    let a = c.args in
+    let l : List Entry = take c.from.result a.t.entries in
+    let i : ℕ = position_or_len (is_its a.c) l in
+    let told : c.position.result ≡ cond (ltb i (length l)) (Some i) None =
+    position_from_yields_List (is_its a.c) _ _ c.position.result c.position.ensures.ran
+    (YieldsList-from_slice l cc) (λ x b q k. search (rules, tests)) in
+    let all : l ≡ entries_of a.t =
+    all_entries a.t c.from.result (entries_16 a.t c.well_formed.0) (c.from.ensures ∙ c.min.ensures) in
+    sym (found_some 1 l (entry 0 0) i c.in_ok-k.k (sym told ∙ c.in_ok-k.was))
+    ∙ sym (standing_place a.c (entry 0 0) 1 l)
+    ∙ ap (standing_from 1 a.c) all
