@@ -1,17 +1,18 @@
--- The mark of a channel says whether it is newly masked; what is no channel has no mark.
+-- What is no channel is not newly masked; the states that the code makes are those of the definition.
 -- Assumes nothing.
 use Rattle.std.specs.Prelude.{if◌then◌else◌}
-use mathlib.Core.Path.{◌≡◌, ap}
-use mathlib.Core.Bool.{false, ◌&&◌, not, and-false}
+use mathlib.Core.Path.{◌≡◌, refl, ap}
+use mathlib.Core.Bool.{Bool, true, false, ◌&&◌, not, and-false}
 use mathlib.Core.List.{List}
-use Prim.Native.Nat.{ℕ, ◌≤◌}
+use Prim.Native.Nat.{ℕ, ◌+◌, ◌≤◌, ◌<◌}
 use native.Mathlib.Omega.{arith}
-use borrow.Author.Tests.{lt-leb}
-use lib.Dec.{eqb, leb}
-use lib.ListN.{get_or}
-use Rattle.loops.specs.Passes.{up_to, marks_of}
+use borrow.Author.Tests.{lt-leb, le-leb, eqb-true, eqb-false}
+use lib.Dec.{leb, eqb}
+use lib.ListN.{length, get_or, set}
+use lib.Seq.{get_or-set_same, get_or-set_other}
+use Rattle.shares.specs.Shares.{share_of, is_masked}
+use Rattle.loops.specs.Passes.{up_to}
 use Rattle.loops.proofs.Fill.{up_to-same}
-use Rattle.loops.proofs.Marks.{a_mark}
 use Rattle.table.specs.declared.Table.{Table}
 use Rattle.generators.specs.declared.Generators.{Generators}
 use Rattle.generators.specs.Generators.{at, is_busy}
@@ -22,15 +23,35 @@ module _ (p : ℕ) (old new : Table) where
   pub no_channel : (c : ℕ) → 17 ≤ c → is_newly_masked p old new c ≡ false
   no_channel c k = rw (lt-leb c 16 (omega arith), and-false (leb 1 c))
 
-  abbrev marks : List ℕ
-  marks = marks_of (is_newly_masked p old new)
+  -- a channel that the old table leaves unmasked, and the new one not
+  pub newly : (c : ℕ) (b a : Bool) → 1 ≤ c → c ≤ 16 → b ≡ not (is_masked (share_of old p c))
+      → a ≡ not (is_masked (share_of new p c)) → (b && not a) ≡ is_newly_masked p old new c
+  newly c b a h k e d =
+      rw (e, d, le-leb 1 c h, le-leb c 16 k) (go (is_masked (share_of old p c)) (is_masked (share_of new p c)))
+    where
+      go : (x y : Bool) → (not x && not (not y)) ≡ (true && true) && (not x && y)
+      go true y = refl
+      go false true = refl
+      go false false = refl
 
-  mark : (c : ℕ) → not (eqb (get_or marks c 0) 0) ≡ is_newly_masked p old new c
-  mark = a_mark (is_newly_masked p old new) 17 no_channel (omega arith)
-
-  pub mask_of : (s : Generators)
+  pub mask_of : (s : Generators) (gone : List Bool) → ((c : ℕ) → get_or gone c false ≡ is_newly_masked p old new c)
       → with_states s
-      (up_to (λ g. if is_busy (at s g) && not (eqb (get_or marks (at s g).channel 0) 0) then 3 else (at s g).state) 64)
+      (up_to (λ g. if is_busy (at s g) && get_or gone (at s g).channel false then 3 else (at s g).state) 64)
       ≡ masked p old new s
   unfolding masked
-  mask_of s = ap (with_states s) (up_to-same _ _ 64 (λ g k. rw (mark (at s g).channel)))
+  mask_of s gone mark = ap (with_states s) (up_to-same _ _ 64 (λ g k. rw (mark (at s g).channel)))
+
+-- a turn of the loop that marks by a rule: what stands below its place, and from its place on
+pub mark_below : (f : ℕ → Bool) (out : List Bool) (c : ℕ) (v : Bool) → c < length out → v ≡ f c
+    → ((k : ℕ) → k < c → get_or out k false ≡ f k) → (k : ℕ) → k < c + 1 → get_or (set out c v) k false ≡ f k
+mark_below f out c v h e m k s = go (eqb k c) refl
+  where
+    go : (t : Bool) → eqb k c ≡ t → get_or (set out c v) k false ≡ f k
+    go true t = rw (eqb-true k c t, get_or-set_same out c v false h) e
+    go false t = let d = eqb-false k c t in rw (get_or-set_other out c k v false d) (m k (omega (arith, d)))
+
+pub mark_above : (out : List Bool) (c : ℕ) (v : Bool) → ((k : ℕ) → c ≤ k → get_or out k false ≡ false)
+    → (k : ℕ) → c + 1 ≤ k → get_or (set out c v) k false ≡ false
+mark_above out c v m k s =
+    let d : k ≡ c → ⊥ = λ e. absurd (omega arith) in
+    rw (get_or-set_other out c k v false d) (m k (omega arith))

@@ -3,17 +3,17 @@
 -- Assumes nothing.
 use Rattle.std.specs.Prelude.{if◌then◌else◌}
 use mathlib.Core.Path.{◌≡◌, refl, sym, ap, ◌∙◌}
-use mathlib.Core.Bool.{Bool, true, false, ◌&&◌, ◌||◌, not, or-true, or-false}
+use mathlib.Core.Bool.{Bool, true, false, ◌&&◌, ◌||◌, not, or-false}
 use mathlib.Core.List.{List, [], ◌∷◌}
 use Prim.Native.Nat.{ℕ, ◌+◌, ◌-◌, ◌≤◌, ◌<◌}
 use borrow.Author.Tests.{eqb-true, eqb-false}
 use lib.Dec.{eqb, leb}
-use lib.ListN.{length, take, drop, get_or, set, replicate}
-use lib.Seq.{get_or-set_same, get_or-set_other}
+use native.Mathlib.Numerals.{add-one}
+use lib.ListN.{length, drop, get_or, set, replicate, drop_of_length-le}
+use lib.Seq.{drop-cons, get_or-set_same, get_or-set_other}
 use Rattle.loops.proofs.Padded.{blank}
 use Rattle.table.specs.declared.Entry.{Entry}
 use Rattle.table.specs.Table.{entry}
-use Rattle.table.proofs.Walk.{rest-next, rest_end}
 use Rattle.shares.specs.Shares.{lookup, shares_from, is_masked}
 
 -- whether one of the entries unmasks channel c among p generators
@@ -35,49 +35,53 @@ masked_by p c v (e ∷ l) = go (masked_by p c e.value l) (leb e.value p) (eqb c 
     go ih true false q = rw q ih
     go ih false t q = ih
 
--- the mark of channel c, where that of channel k may be set
-turn : (p c k v : ℕ) (out : List ℕ) (x : ℕ) (r : Bool) → k < length out → x ≡ (if leb v p then 1 else get_or out k 0)
-    → (not (eqb (get_or (set out k x) c 0) 0) || r) ≡ (not (eqb (get_or out c 0) 0) || ((leb v p && eqb c k) || r))
-turn p c k v out x r h e = go (eqb c k) refl (leb v p) e
+-- whether channel c is marked, where channel k may be
+turn : (p c k v : ℕ) (out : List Bool) (r : Bool) → k < length out
+    → (get_or (set out k (get_or out k false || leb v p)) c false || r)
+    ≡ (get_or out c false || ((leb v p && eqb c k) || r))
+turn p c k v out r h = go (eqb c k) refl (leb v p)
   where
-    go : (t : Bool) → eqb c k ≡ t → (b : Bool) → x ≡ (if b then 1 else get_or out k 0)
-        → (not (eqb (get_or (set out k x) c 0) 0) || r) ≡ (not (eqb (get_or out c 0) 0) || ((b && t) || r))
-    go true t true e =
-        rw (eqb-true c k t, get_or-set_same out k x 0 h, e) (sym (or-true (not (eqb (get_or out k 0) 0))))
-    go true t false e = rw (eqb-true c k t, get_or-set_same out k x 0 h, e)
-    go false t true e = rw (get_or-set_other out k c x 0 (eqb-false c k t))
-    go false t false e = rw (get_or-set_other out k c x 0 (eqb-false c k t))
+    go : (t : Bool) → eqb c k ≡ t → (b : Bool)
+        → (get_or (set out k (get_or out k false || b)) c false || r) ≡ (get_or out c false || ((b && t) || r))
+    go true t true =
+        rw (eqb-true c k t, get_or-set_same out k (get_or out k false || true) false h)
+        (both (get_or out k false))
+      where
+        both : (x : Bool) → ((x || true) || r) ≡ (x || true)
+        both true = refl
+        both false = refl
+    go true t false =
+        rw (eqb-true c k t, get_or-set_same out k (get_or out k false || false) false h) (rw (or-false (get_or out k false)))
+    go false t true = rw (get_or-set_other out k c _ false (eqb-false c k t))
+    go false t false = rw (get_or-set_other out k c _ false (eqb-false c k t))
 
-module _ (p : ℕ) (l : List Entry) (n : ℕ) where
+module _ (p : ℕ) (l : List Entry) where
   -- what holds at turn i
-  abbrev pub Marked-to : ℕ → List ℕ → Type 0
-  Marked-to i out =
-      (c : ℕ) → c < 256 → (not (eqb (get_or out c 0) 0) || plays p c (drop i (take n l))) ≡ plays p c (take n l)
+  abbrev pub Marked-to : ℕ → List Bool → Type 0
+  Marked-to i out = (c : ℕ) → c < 256 → (get_or out c false || plays p c (drop i l)) ≡ plays p c l
 
-  pub marked_none : Marked-to 0 (replicate 256 0)
-  marked_none c h = rw (blank {A = ℕ} 0 256 c)
+  pub marked_none : Marked-to 0 (replicate 256 false)
+  marked_none c h = rw (blank false 256 c)
 
-  -- k is the channel of the entry at i
-  pub marked_next : (i k x : ℕ) (out : List ℕ) → i < n
-      → n ≤ length l → k ≡ (get_or l i (entry 0 0)).channel → k < length out
-      → x ≡ (if leb (get_or l i (entry 0 0)).value p then 1 else get_or out k 0)
-      → Marked-to i out → Marked-to (i + 1) (set out k x)
+  pub marked_next : (i : ℕ) (out : List Bool) → i < length l → (get_or l i (entry 0 0)).channel < length out
+      → Marked-to i out
+      → Marked-to (i + 1) (set out (get_or l i (entry 0 0)).channel
+      (get_or out (get_or l i (entry 0 0)).channel false || leb (get_or l i (entry 0 0)).value p))
   unfolding plays
-  marked_next i k x out h few is room e m c s =
-      turn p c k (get_or l i (entry 0 0)).value out x (plays p c (drop (i + 1) (take n l))) room e
-      ∙ ap (λ (j : ℕ). not (eqb (get_or out c 0) 0)
-      || ((leb (get_or l i (entry 0 0)).value p && eqb c j) || plays p c (drop (i + 1) (take n l)))) is
-      ∙ ap (λ (r : List Entry). not (eqb (get_or out c 0) 0) || plays p c r) (sym (rest-next l n i h few))
+  marked_next i out h room m c s =
+      turn p c (get_or l i (entry 0 0)).channel (get_or l i (entry 0 0)).value out (plays p c (drop (i + 1) l)) room
+      ∙ rw add-one (ap (λ (r : List Entry). get_or out c false || plays p c r) (sym (drop-cons l i (entry 0 0) h)))
       ∙ m c s
 
-  pub marked_end : (i v : ℕ) (out : List ℕ) → n ≤ i → Marked-to i out → (c : ℕ)
-      → c < 256 → eqb (get_or out c 0) 0 ≡ is_masked (lookup c (shares_from p v (take n l)))
+  pub marked_end : (i v : ℕ) (out : List Bool) → length l ≤ i → Marked-to i out → (c : ℕ)
+      → c < 256 → get_or out c false ≡ not (is_masked (lookup c (shares_from p v l)))
   unfolding plays
   marked_end i v out h m c s =
-      twice (eqb (get_or out c 0) 0)
-      ∙ ap not (sym (or-false (not (eqb (get_or out c 0) 0)))
-      ∙ ap (λ (r : List Entry). not (eqb (get_or out c 0) 0) || plays p c r) (sym (rest_end l n i h)) ∙ m c s)
-      ∙ sym (masked_by p c v (take n l))
+      sym (or-false (get_or out c false))
+      ∙ ap (λ (r : List Entry). get_or out c false || plays p c r) (sym (drop_of_length-le l h))
+      ∙ m c s
+      ∙ twice (plays p c l)
+      ∙ ap not (sym (masked_by p c v l))
     where
       twice : (b : Bool) → b ≡ not (not b)
       twice true = refl

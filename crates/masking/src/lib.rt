@@ -3,8 +3,8 @@
 // Assumes nothing.
 #![tactic(auto)]
 
-ghost use Rattle.std.specs.Prelude.{◌≡◌, ◌&&◌, not, ℕ, ◌<◌, eqb, get_or, if◌then◌else◌};
-ghost use Rattle.loops.specs.Passes.{up_to, marks_of};
+ghost use Rattle.std.specs.Prelude.{◌≡◌, ◌&&◌, not, ℕ, ◌<◌, false, get_or, if◌then◌else◌};
+ghost use Rattle.loops.specs.Passes.{up_to};
 ghost use Rattle.generators.specs.Generators.{generator, releasing, is_busy};
 ghost use Rattle.shares.specs.Shares.{share_of, is_masked};
 ghost use Rattle.masking.specs.Masking.{is_newly_masked, masked};
@@ -12,51 +12,44 @@ ghost use Rattle.masking.specs.Masking.{is_newly_masked, masked};
 use generators::Generators;
 use table::Table;
 
-// A mark for each channel that a table leaves unmasked among P generators, in one pass over its entries.
-fn unmasked(table: Table, polyphony: u8) -> [u8; 256]
-    ensures { (c : ℕ) → c < 256 → eqb (get_or result c 0) 0 ≡ is_masked (share_of table polyphony c) }
+// Which channels a table leaves unmasked among P generators, in one pass over its entries.
+fn unmasked(table: Table, polyphony: u8) -> [bool; 256]
+    ensures { (c : ℕ) → c < 256 → get_or result c false ≡ not (is_masked (share_of table polyphony c)) }
 {
-    let entries = table.entries;
-    let n = loops::at_most(16, table.count) as usize;
-    let mut out = [0u8; 256];
-    let mut i: usize = 0;
-    while i < n {
-        let e = entries[i];
-        let mark = loops::place(e.channel);
-        out[mark] = loops::if_else(e.value <= polyphony, 1, out[mark]);
-        i += 1;
+    let n = usize::from(table.count.min(16));
+    let mut out = [false; 256];
+    for e in &table.entries[..n] {
+        out[usize::from(e.channel)] |= e.value <= polyphony;
     }
     out
 }
 
-// A mark for each newly masked channel, by its number: it plays by the old table and not by the new one. What is above
-// 16 is no channel and has none.
-fn marks(polyphony: u8, old: Table, new: Table) -> [u8; 256]
-    ensures { result ≡ marks_of (is_newly_masked polyphony old new) }
+// Which channels are newly masked: those that play by the old table and not by the new one. What is above 16 is none.
+fn newly_masked(polyphony: u8, old: Table, new: Table) -> [bool; 256]
+    ensures { (c : ℕ) → get_or result c false ≡ is_newly_masked polyphony old new c }
 {
     let before = unmasked(old, polyphony);
     let after = unmasked(new, polyphony);
-    let mut out = [0u8; 256];
-    let mut i: usize = 0;
-    while i < 17 {
-        out[i] = loops::one(shares::is_channel(i as u8) & ((before[i] != 0) & (after[i] == 0)));
-        i += 1;
+    let mut out = [false; 256];
+    for c in 1..17 {
+        out[c] = before[c] & !after[c];
     }
     out
 }
 
-// The states after the busy generators of marked channels were released.
-fn release(state: [u8; 64], channel: [u8; 64], marks: [u8; 256]) -> [u8; 64]
+// The states after the busy generators of these channels were released.
+fn release(state: [u8; 64], channel: [u8; 64], gone: [bool; 256]) -> [u8; 64]
     ensures { result ≡ up_to (λ g. if is_busy (generator (get_or state g 0) 0 0)
-        && not (eqb (get_or marks (get_or channel g 0) 0) 0) then releasing else get_or state g 0) 64 }
+        && get_or gone (get_or channel g 0) false then releasing else get_or state g 0) 64 }
 {
     let mut out = state;
-    let mut i: usize = 0;
-    while i < 64 {
-        let mark = loops::place(channel[i]);
-        let gone = generators::is_busy(state[i]) & (marks[mark] != 0);
-        out[i] = loops::if_else(gone, generators::RELEASING, state[i]);
-        i += 1;
+    for g in 0..64 {
+        let goes = generators::is_busy(state[g]) & gone[usize::from(channel[g])];
+        out[g] = if goes {
+            generators::RELEASING
+        } else {
+            state[g]
+        };
     }
     out
 }
@@ -65,10 +58,9 @@ fn release(state: [u8; 64], channel: [u8; 64], marks: [u8; 256]) -> [u8; 64]
 pub fn mask(generators: Generators, polyphony: u8, old: Table, new: Table) -> Generators
     ensures { result ≡ masked polyphony old new generators }
 {
-    let state = generators.state;
-    let channel = generators.channel;
-    let after = release(state, channel, marks(polyphony, old, new));
-    let mut next = generators;
-    next.state = after;
-    next
+    let gone = newly_masked(polyphony, old, new);
+    Generators {
+        state: release(generators.state, generators.channel, gone),
+        ..generators
+    }
 }

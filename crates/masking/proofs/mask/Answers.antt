@@ -6,4 +6,4 @@ use Rattle.masking.proofs.mask.Goals as goal
 pub returns : goal.returns
 returns c =
     let a = c.args in
-    simp (c.release-after.ensures, c.marks.ensures) (mask_of a.polyphony a.old a.new a.generators)
+    simp c.release.ensures (mask_of a.polyphony a.old a.new a.generators c.newly_masked-gone.result c.newly_masked-gone.ensures)
