@@ -1,13 +1,12 @@
 -- The digits of a number leave the number that they spell, or 99,999,999, and a comma behind them begins the next.
 -- Assumes nothing.
-use Rattle.std.specs.Prelude.{if◌then◌else◌}
 use Prim.Native.Nat.{ℕ, ◌+◌, ◌-◌, ◌*◌, ◌<◌}
 use mathlib.Core.Path.{◌≡◌, refl, ◌∙◌}
 use mathlib.Core.Bool.{Bool, true, false, ◌&&◌}
 use mathlib.Core.List.{List, [], ◌∷◌, ◌++◌}
 use native.Mathlib.Omega.{arith}
-use lib.Dec.{leb, ltb}
-use borrow.Author.Tests.{lt-ltb, le-ltb, ltb-false, leb-true, ne_eqb}
+use lib.Dec.{leb}
+use borrow.Author.Tests.{lt-ltb, leb-true, ne_eqb}
 use Rattle.loops.proofs.Tests.{and_left, and_right}
 use Rattle.fields.specs.declared.Line.{Line}
 use Rattle.fields.specs.Line.{kept, is_digit, with_digit, after_digit, after_comma, read}
@@ -23,13 +22,7 @@ at r d k s n = record { commas = r; digit = d; first = k; previous = s; last = k
 
 -- a number that is kept as 99,999,999 stays that, whatever digit comes behind it
 pub kept_digit : (n d : ℕ) → with_digit (kept n) d ≡ kept (10 * n + d)
-kept_digit n d = go (ltb n 99999999) refl
-  where
-    go : (x : Bool) → ltb n 99999999 ≡ x → kept (10 * (if x then n else 99999999) + d) ≡ kept (10 * n + d)
-    go true e = refl
-    go false e =
-        let h = ltb-false n 99999999 e in
-        rw (le-ltb (10 * 99999999 + d) 99999999 (omega arith), le-ltb (10 * n + d) 99999999 (omega arith))
+kept_digit n d = omega arith
 
 module _ (ended : Line → List ℕ) (r k s : ℕ) where
   pub from_digit : (d : Bool) (n x : ℕ) (ys : List ℕ) → is_digit x ≡ true

@@ -2,8 +2,7 @@
 // What a line's numbers ask for is in crates `pitch_lines` and `song_lines`. Assumes nothing.
 #![tactic(auto)]
 
-ghost use Rattle.std.specs.Prelude.{◌≤◌, ◌≡◌};
-ghost use Rattle.loops.specs.Cases.{at_most};
+ghost use Rattle.std.specs.Prelude.{◌≡◌};
 ghost use Rattle.fields.specs.Line.{new_line, read};
 
 // A line as far as it is read. Its numbers move up at a comma: the one that is read is always the last.
@@ -33,30 +32,19 @@ pub fn begin() -> Line
     }
 }
 
-// n, but at most m.
-pub fn at_most(m: u64, n: u64) -> u64
-    ensures { (result ≡ at_most m n) × (result ≤ m) }
-{
-    if n < m {
-        return n;
-    }
-    m
-}
-
 // A byte of a line: a digit, or a comma behind the first or the second number; any other makes the line malformed.
 pub fn read(c: Line, b: u8) -> Line
     ensures { result ≡ read c b }
 {
-    if (48 <= b) & (b <= 57) {
+    if b.is_ascii_digit() {
+        let last = 10 * u64::from(c.last) + u64::from(b - b'0');
         return Line {
-            commas: c.commas,
             digit: true,
-            first: c.first,
-            previous: c.previous,
-            last: at_most(99999999, 10 * (c.last as u64) + ((b - 48) as u64)) as u32,
+            last: last.min(99999999) as u32,
+            ..c
         };
     }
-    if (b == 44) & (c.digit & (c.commas < 2)) {
+    if (b == b',') & (c.digit & (c.commas < 2)) {
         return Line {
             commas: c.commas + 1,
             digit: false,
