@@ -1,18 +1,15 @@
 -- P1 to P9 of docs/RULES.md as one list of what the definitions say, and one of what is written there. All go through
 -- the bytes, from a start on.
-use Rattle.std.specs.Prelude.{ℕ, ◌+◌, List, [], ◌∷◌, ◌++◌, replicate}
+use Rattle.std.specs.Prelude.{ℕ, ◌+◌, Bool, true, false, List, [], ◌∷◌, ◌++◌, replicate, Result, Ok}
+use Rattle.refusals.specs.declared.Refusal.{Refusal}
+use Rattle.refusals.specs.declared.Refusal.TheVariants as refusal
 use Rattle.generators.specs.Generators.{held}
 use Rattle.allocation.specs.declared.Was.TheVariants.{Idle, Stolen}
 use Rattle.playing.specs.declared.Answer.{Answer}
 use Rattle.playing.specs.declared.Answer.TheVariants.{Nothing, Done, Note, NoNote, Number}
 use Rattle.device.specs.declared.Device.{Device}
 use Rattle.device.specs.Device.{started, byte_taken, after_bytes}
-use Rattle.queries.specs.declared.GeneratorAnswer.{GeneratorAnswer}
-use Rattle.queries.specs.declared.GeneratorAnswer.TheVariants.{GeneratorIs}
-use Rattle.queries.specs.declared.MaskAnswer.{MaskAnswer}
-use Rattle.queries.specs.declared.MaskAnswer.TheVariants.{IsMasked, IsUnmasked}
-use Rattle.queries.specs.declared.ShareAnswer.{ShareAnswer}
-use Rattle.queries.specs.declared.ShareAnswer.TheVariants.{ShareIs}
+use Rattle.queries.specs.declared.GeneratorState.{GeneratorState}
 use Rattle.queries.specs.Queries.{generator_query, mask_query, share_query}
 
 -- the answer to the last of some bytes
@@ -28,9 +25,14 @@ fresh p = (started p 0).device
 pub data Seen : Type 0 where
   answer : Answer → Seen
   -- state, channel and key
-  generator : GeneratorAnswer → Seen
-  mask : MaskAnswer → Seen
-  share : ShareAnswer → Seen
+  generator : Result GeneratorState Refusal → Seen
+  -- whether it is masked
+  mask : Result Bool Refusal → Seen
+  share : Result ℕ Refusal → Seen
+
+-- a generator that is told, by its state, channel and key
+abbrev pub generator_is : ℕ → ℕ → ℕ → Seen
+generator_is x c k = generator (Ok (record { state = x; channel = c; key = k }))
 
 -- a MIP message
 abbrev pub mip : List ℕ → List ℕ
@@ -101,24 +103,24 @@ computed p = P1 ++ P2 ++ P3 p ++ P4 p ++ P5 ++ P6 ++ P7 ++ P8 ++ P9
 unfoldable pub printed : List Seen
 printed =
     -- P1: channel 2 loses, whose oldest note, key 60, is on generator 2
-    generator (GeneratorIs held 2 60)
+    generator_is held 2 60
     ∷ answer (Note 3 62 2 Stolen)
     -- P2: channel 3 itself loses, whose oldest is on 8
-    ∷ generator (GeneratorIs held 3 60)
+    ∷ generator_is held 3 60
     ∷ answer (Note 3 63 8 Stolen)
     -- P3, P4: value P, and P + 1; P5: the shares of values 5, 5
-    ∷ mask IsUnmasked
-    ∷ mask IsMasked
-    ∷ share (ShareIs 5)
-    ∷ share (ShareIs 0)
+    ∷ mask (Ok false)
+    ∷ mask (Ok true)
+    ∷ share (Ok 5)
+    ∷ share (Ok 0)
     -- P6: channel 1 loses; P7: number 11
-    ∷ generator (GeneratorIs held 1 60)
+    ∷ generator_is held 1 60
     ∷ answer (Note 10 36 0 Stolen)
-    ∷ answer (NoNote 11 1 60)
+    ∷ answer (NoNote refusal.NothingToSteal 1 60)
     -- P8: key 46 is idle, and its generator has 42
-    ∷ generator (GeneratorIs held 10 46)
+    ∷ generator_is held 10 46
     ∷ answer (Note 10 42 0 Idle)
     -- P9: 32 bytes of pairs, and 33
     ∷ answer Done
-    ∷ answer (Number 5)
+    ∷ answer (Number refusal.MipTooLong)
     ∷ []
