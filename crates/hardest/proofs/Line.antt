@@ -2,7 +2,7 @@
 -- channel 1. The next key isn't among them, for there are at most 64; it takes an idle generator while there is one,
 -- and then the oldest, since no pedal is down.
 -- Assumes nothing.
-use Rattle.std.specs.Prelude.{if◌then◌else◌}
+use Rattle.std.specs.Prelude.{if◌then◌else◌, Result, Ok}
 use mathlib.Core.Path.{◌≡◌, refl, sym, ap, ◌∙◌, subst}
 use mathlib.Core.Bool.{Bool, true, false, not, ◌&&◌, ◌||◌}
 use mathlib.Core.List.{List, [], ◌∷◌, ◌++◌, map}
@@ -19,6 +19,7 @@ use Rattle.loops.proofs.Totals.{total_bits}
 use Rattle.loops.proofs.Occurs.{occurs, total_hole}
 use Rattle.loops.proofs.Search.{first_none}
 use Rattle.loops.proofs.Tests.{impossible}
+use Rattle.refusals.specs.declared.Refusal.{Refusal}
 use Rattle.table.specs.declared.Entry.{Entry}
 use Rattle.table.specs.Laws.{WellFormed}
 use Rattle.table.specs.Table.{entry, start_order, start_table, listed}
@@ -35,7 +36,6 @@ use Rattle.age_law.proofs.At.{assigned-at}
 use Rattle.age_law.proofs.Assigned.{order_length, assigned_order}
 use Rattle.allocation.specs.declared.Was.TheVariants.{Stolen}
 use Rattle.allocation.specs.declared.Taken.{Taken}
-use Rattle.allocation.specs.declared.Taken.TheVariants.{Took}
 use Rattle.allocation.specs.declared.Allocated.{Allocated}
 use Rattle.allocation.specs.Allocation.{cleared, choice, allocated, note_on}
 use Rattle.playing.specs.Playing.{reply_of}
@@ -301,10 +301,10 @@ module _ (p j : ℕ) (lo : 1 ≤ p) (s : Generators) (o : Lined p j s) where
       → first_of (λ x. is_down (slots x) && is_of 1 (slots x)) (order s) ≡ some g
   first-down g e = rw (first_none (λ x. is_on_pedal (slots x) && is_of 1 (slots x)) no-pedal (order s)) at e
 
-  take : (t : Taken) → Chosen p slots s quota 1 t → Plays (allocated s s 1 key t)
+  take : (t : Result Taken Refusal) → Chosen p slots s quota 1 t → Plays (allocated s s 1 key t)
   take t (free g w z h e) = go (either g)
     where
-      go : Either g → Plays (allocated s s 1 key (Took g w))
+      go : Either g → Plays (allocated s s 1 key (Ok (record { generator = g; was = w })))
       go (song k a b x y) = let r : note false 1 (k % 128) ≡ empty = sym (ap slot_of y) ∙ e in impossible (cc)
       go (idle x) =
           let mute : sounds g ≡ false = rw x in
@@ -326,7 +326,7 @@ module _ (p j : ℕ) (lo : 1 ≤ p) (s : Generators) (o : Lined p j s) where
   take t (theft g d f h e v w r last) = go (either g)
     where
       robs : Front s o.first g (order s) → length (order s) ≡ p
-          → sounds g ≡ true → Plays (allocated s s 1 key (Took g Stolen))
+          → sounds g ≡ true → Plays (allocated s s 1 key (Ok (record { generator = g; was = Stolen })))
       robs w n y =
           let once : occurs g (g ∷ w.rest) ≡ 1 =
           ap (occurs g) (sym w.is) ∙ o.playable.ordered.once g ∙ ap bit y in
@@ -343,7 +343,7 @@ module _ (p j : ℕ) (lo : 1 ≤ p) (s : Generators) (o : Lined p j s) where
       full : length (order s) ≡ p
       full = size ∙ total-full sounds p (λ x l. sounding x (f x l))
 
-      go : Either g → Plays (allocated s s 1 key (Took g Stolen))
+      go : Either g → Plays (allocated s s 1 key (Ok (record { generator = g; was = Stolen })))
       go (song k a b x y) =
           let q : eqb 1 d ≡ true = sym (ap (λ (z : Generator). is_of d (slot_of z)) y) ∙ e in
           let one : d ≡ 1 = sym (eqb-true 1 d q) in

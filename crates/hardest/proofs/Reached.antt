@@ -1,6 +1,7 @@
 -- The song reaches the most thefts: its bytes are a status byte and then pairs of a key and a velocity, of which each
 -- completes a note-on.
 -- Assumes nothing.
+use Rattle.std.specs.Prelude.{Ok}
 use mathlib.Core.Path.{◌≡◌, refl, sym, ap, ap₂, ◌∙◌, subst}
 use mathlib.Core.Bool.{Bool, true, false}
 use mathlib.Core.List.{List, [], ◌∷◌, ◌++◌}
@@ -26,7 +27,6 @@ use Rattle.device.specs.declared.Device.{Device}
 use Rattle.device.specs.declared.Output.{Output}
 use Rattle.device.specs.Device.{fresh_device, heard, output_of, byte_taken, after_bytes}
 use Rattle.device.proofs.Bytes.{after_snoc}
-use Rattle.song.specs.declared.SongAnswer.TheVariants.{Thefts}
 use Rattle.song.specs.Song.{is_theft, thefts, song_byte, song, song_answer}
 use Rattle.song.proofs.Played.{thefts_snoc}
 use Rattle.hardest.specs.Hardest.{most_thefts, polyphony_of, Reached, AnswersMost}
@@ -207,5 +207,5 @@ pub answers_most : AnswersMost
 unfolding song_answer
 answers_most p n buffer r f =
     let h = in_range p r in
-    rw (r, f) (ap Thefts
+    rw (r, f) (ap Ok
     (ap (λ (d : Device). thefts d (song n)) (started-fresh p 0 r (omega arith)) ∙ reaches p 0 h.0 h.1 n))

@@ -9,6 +9,7 @@ use native.Mathlib.Omega.{arith}
 use borrow.Author.Tests.{ltb-false, le-ltb}
 use lib.Dec.{ltb}
 use Rattle.loops.proofs.Tests.{impossible}
+use Rattle.refusals.specs.declared.Refusal.TheVariants as refusal
 use Rattle.playing.specs.declared.Answer.TheVariants as answer
 use Rattle.device.specs.declared.Device.{Device}
 use Rattle.device.specs.Device.{is_wrong_p, fresh_device, fresh_output, started}
@@ -31,8 +32,8 @@ every_start Q f p id = go (is_wrong_p p) refl (ltb 126 id)
     one = f 1 0 (omega arith) (omega arith)
 
     go : (x : Bool) → is_wrong_p p ≡ x → (y : Bool)
-        → Q (if x then fresh_output (answer.Number 1) 1 0
-        else if y then fresh_output (answer.Number 2) 1 0 else fresh_output answer.Done p id).device
+        → Q (if x then fresh_output (answer.Number refusal.WrongPolyphony) 1 0
+        else if y then fresh_output (answer.Number refusal.WrongId) 1 0 else fresh_output answer.Done p id).device
     go true e y = one
     go false e true = one
     go false e false = let r = in_range p e in f p id r.0 r.1

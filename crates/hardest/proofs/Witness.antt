@@ -2,6 +2,7 @@
 -- not give these facts. Then what a driver's team draws from the claims alone: the queue for the longest song, and a
 -- bound for a song of SysEx, resets and MIP messages that nobody played.
 -- Assumes nothing.
+use Rattle.std.specs.Prelude.{Ok}
 use mathlib.Core.Path.{◌≡◌, refl, ap, ◌∙◌, subst}
 use mathlib.Core.Bool.{false}
 use mathlib.Core.List.{List, [], ◌∷◌}
@@ -10,7 +11,6 @@ use lib.ListN.{length}
 use Rattle.instrument.specs.Instrument.{fresh}
 use Rattle.device.specs.declared.Device.{Device}
 use Rattle.device.specs.Device.{is_wrong_p, started}
-use Rattle.song.specs.declared.SongAnswer.TheVariants.{Thefts}
 use Rattle.song.specs.Song.{thefts, song, is_too_long, song_answer}
 use Rattle.hardest.specs.Hardest.{most_thefts, new_device, polyphony_of, NoWorse, Reached, AnswersMost}
 use Rattle.hardest.proofs.Starts.{started-fresh, is_right}
@@ -31,7 +31,7 @@ every_length h = h
 
 -- every call that isn't refused
 pub every_call : AnswersMost → (p n : ℕ) (buffer : List ℕ) → is_wrong_p p ≡ false
-    → is_too_long n (length buffer) ≡ false → song_answer p n buffer ≡ Thefts (most_thefts p n)
+    → is_too_long n (length buffer) ≡ false → song_answer p n buffer ≡ Ok (most_thefts p n)
 every_call h = h
 
 pub any_start : (p id : ℕ) → new_device p id ≡ (started p id).device

@@ -17,6 +17,7 @@ use Rattle.loops.proofs.Totals.{total_bits}
 use Rattle.loops.proofs.Tests.{impossible}
 use Rattle.splitter.specs.Split.{begun, split}
 use Rattle.message.specs.declared.Message.TheVariants.{NoteOn, NoteOff, Control, Program, Bend, Other}
+use Rattle.refusals.specs.declared.Refusal.TheVariants as refusal
 use Rattle.table.specs.Table.{entries_of}
 use Rattle.instrument.specs.declared.Instrument.{Instrument}
 use Rattle.playing.specs.declared.Answer.{Answer}
@@ -120,7 +121,7 @@ unfolding reported
 reported_theft i g = go (leb i.polyphony g) (is_idle (at i.generators g))
   where
     go : (x y : Bool)
-        → is_theft (if x then replied (answer.Number 12) i else if y then replied (answer.Number 13) i
+        → is_theft (if x then replied (answer.Number refusal.NoGenerator) i else if y then replied (answer.Number refusal.IdleGenerator) i
         else replied answer.Done (with_generators i (silenced (leaving.One g) i.generators))).answer ≡ false
     go true y = refl
     go false true = refl

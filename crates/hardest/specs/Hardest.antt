@@ -1,9 +1,9 @@
 -- How many thefts n bytes without reports can make on a fresh device (R13.1, R13.2). No list of n bytes makes more,
 -- whatever the bytes are, and the song that crate `song` writes makes as many.
 use Rattle.std.specs.Prelude.{ℕ, ◌-◌, ◌/◌, ◌≤◌, ◌≡◌, false, List, length}
+use Rattle.std.specs.Prelude.{Ok}
 use Rattle.device.specs.declared.Device.{Device}
 use Rattle.device.specs.Device.{is_wrong_p, started}
-use Rattle.song.specs.declared.SongAnswer.TheVariants.{Thefts}
 use Rattle.song.specs.Song.{thefts, song, is_too_long, song_answer}
 
 -- R13.1: the formula; a difference of natural numbers is 0 where it would be negative
@@ -32,4 +32,4 @@ Reached = (p id n : ℕ) → thefts (new_device p id) (song n) ≡ most_thefts (
 abbrev pub AnswersMost : Type 0
 AnswersMost =
     (p n : ℕ) (buffer : List ℕ) → is_wrong_p p ≡ false → is_too_long n (length buffer) ≡ false
-    → song_answer p n buffer ≡ Thefts (most_thefts p n)
+    → song_answer p n buffer ≡ Ok (most_thefts p n)

@@ -2,7 +2,7 @@
 -- holds at most 127. A data byte is below 128, so that what a channel message carries is at most 127; it is the last
 -- byte, or the first one kept. Nothing else touches the channels but a reset, which makes them fresh.
 -- Assumes nothing.
-use Rattle.std.specs.Prelude.{if◌then◌else◌}
+use Rattle.std.specs.Prelude.{if◌then◌else◌, Result, Ok, Err}
 use mathlib.Core.Path.{◌≡◌, refl, ◌∙◌}
 use mathlib.Core.Bool.{Bool, true, false, ◌&&◌, ◌||◌}
 use mathlib.Core.List.{List, [], ◌∷◌}
@@ -13,6 +13,8 @@ use lib.Dec.{eqb, leb, ltb}
 use lib.ListN.{length, get_or, set, drop, replicate, length-set}
 use Rattle.loops.specs.Cases.{differ, bit, at_most}
 use Rattle.loops.proofs.Cases.{by_both}
+use Rattle.refusals.specs.declared.Refusal.{Refusal}
+use Rattle.table.specs.declared.Table.{Table}
 use Rattle.splitter.specs.declared.Parser.{Parser}
 use Rattle.splitter.specs.declared.Completed.{Completed}
 use Rattle.splitter.specs.declared.Completed.TheVariants as completed
@@ -25,8 +27,6 @@ use Rattle.message.specs.Message.{decode}
 use Rattle.sysex.specs.declared.Kind.{Kind}
 use Rattle.sysex.specs.declared.Kind.TheVariants as kind
 use Rattle.sysex.specs.SysEx.{kind_of}
-use Rattle.mip.specs.declared.Verdict.{Verdict}
-use Rattle.mip.specs.declared.Verdict.TheVariants.{Accepted, Refused}
 use Rattle.mip.specs.Mip.{judged}
 use Rattle.channels.specs.declared.Channel.{Channel}
 use Rattle.channels.specs.Channel.{fresh, fresh_rhythm, with_program}
@@ -63,11 +63,7 @@ unfolding fresh fresh_rhythm
 rhythm_in_range = omega arith
 
 at_most_24 : (v : ℕ) → at_most 24 v ≤ 24
-at_most_24 v = go (ltb v 24) refl
-  where
-    go : (b : Bool) → ltb v 24 ≡ b → (if b then v else 24) ≤ 24
-    go true e = omega (arith, ltb-true v 24 e)
-    go false e = omega arith
+at_most_24 v = omega arith
 
 -- a number is at most m, whichever of two it is
 up_to : (m : ℕ) (b : Bool) (x y : ℕ) → x ≤ m → y ≤ m → (if b then x else y) ≤ m
@@ -203,12 +199,12 @@ exclusive-kept : (i : Instrument) → Kept i → (l : List ℕ) → KeptBy (excl
 unfolding new_table mip_taken exclusive
 exclusive-kept i k l = by_kind (kind_of i.id l)
   where
-    by-verdict : (v : Verdict) → KeptBy (judged_reply i v (judged (drop 4 l)).table)
-    by-verdict Accepted = k
-    by-verdict (Refused n) = k
+    by-verdict : (v : Result Table Refusal) → KeptBy (judged_reply i v)
+    by-verdict (Ok t) = k
+    by-verdict (Err r) = k
 
     by_kind : (x : Kind) → KeptBy (kind_reply i l x)
-    by_kind kind.Mip = by-verdict (judged (drop 4 l)).verdict
+    by_kind kind.Mip = by-verdict (judged (drop 4 l))
     by_kind kind.SystemOn = fresh_kept i.polyphony i.id
     by_kind kind.Other = k
 

@@ -1,7 +1,7 @@
 -- What an input gets, said of lines and their fields and not of bytes: the laws of crate `fields` for what a request
 -- gets, on standard error and on standard output.
 -- Assumes nothing.
-use Rattle.std.specs.Prelude.{if◌then◌else◌}
+use Rattle.std.specs.Prelude.{if◌then◌else◌, Result}
 use Prim.Native.Nat.{ℕ, ◌^◌, ◌<◌}
 use mathlib.Core.Path.{◌≡◌, refl, ◌∙◌}
 use mathlib.Core.Bool.{Bool, true, false, ◌&&◌}
@@ -17,7 +17,7 @@ use Rattle.fields.specs.Fields.{is_field, are_fields, line_ends, behind, number_
 use Rattle.fields.proofs.Told.{Reads, told, never, either}
 use Rattle.fields.proofs.Written.{written, ends_parts, ends_decimal}
 use Rattle.fields.proofs.Sentences as sentences
-use Rattle.song.specs.declared.SongAnswer.{SongAnswer}
+use Rattle.refusals.specs.declared.Refusal.{Refusal}
 use Rattle.song.specs.Song.{song_answer, song_number, thefts_in}
 use Rattle.song_lines.specs.declared.Request.{Request}
 use Rattle.song_lines.specs.declared.Request.TheVariants.{Nothing, Malformed, Song}
@@ -165,7 +165,7 @@ module _ (page : List ℕ) where
   )
 
   -- as many lines come out as go in: an answer has one 0AH
-  ends_answer : (a : SongAnswer) → line_ends (answer_line a) ≡ 1
+  ends_answer : (a : Result ℕ Refusal) → line_ends (answer_line a) ≡ 1
   unfolding count answer_line
   ends_answer a =
       let n = decimal (or_zero (song_number a)) in

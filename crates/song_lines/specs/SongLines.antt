@@ -2,15 +2,15 @@
 -- standard error, what `song_answer P n` answers, and on standard output the listing program's input: P, the own ID 0,
 -- and the song (of several lines one behind the other; the listing program takes one). All text is ASCII, and every
 -- line ends with byte 0AH.
-use Rattle.std.specs.Prelude.{ℕ, ◌≤◌, ◌≡◌, Bool, ◌&&◌, List, [], ◌∷◌, ◌++◌, eqb, length, take, drop, if◌then◌else◌}
+use Rattle.std.specs.Prelude.{ℕ, ◌≤◌, ◌≡◌, Bool, ◌&&◌, List, [], ◌∷◌, ◌++◌, eqb, length, take, drop, if◌then◌else◌, Result, Ok, Err}
 use Rattle.loops.specs.Cases.{at_most, or_zero}
 use Rattle.text.specs.Text.{decimal}
 use Rattle.fields.specs.declared.Line.{Line}
 use Rattle.fields.specs.Line.{is_empty}
 use Rattle.fields.specs.Answers.{malformed_line, all_answers_by}
 use Rattle.fields.specs.Fields.{is_number, spelled}
-use Rattle.song.specs.declared.SongAnswer.{SongAnswer}
-use Rattle.song.specs.declared.SongAnswer.TheVariants.{Thefts, WrongPolyphony, TooLong}
+use Rattle.refusals.specs.declared.Refusal.TheVariants as refusal
+use Rattle.refusals.specs.declared.Refusal.{Refusal}
 use Rattle.song.specs.Song.{song, song_answer, song_number, thefts_in}
 use Rattle.song_lines.specs.declared.Request.{Request}
 use Rattle.song_lines.specs.declared.Request.TheVariants.{Nothing, Malformed, Song}
@@ -35,7 +35,7 @@ end_request c = if is_empty c then Nothing else line_request c
 -- ---- what it gets
 
 -- the line of an answer: its number, 0 for a song, and the thefts
-unfoldable pub answer_line : SongAnswer → List ℕ
+unfoldable pub answer_line : Result ℕ Refusal → List ℕ
 answer_line a = decimal (or_zero (song_number a)) ++ (44 ∷ decimal (thefts_in a)) ++ (10 ∷ [])
 
 -- what standard error gets, where the song is written into this room
@@ -45,10 +45,9 @@ answer_to room Malformed = malformed_line
 answer_to room (Song p n) = answer_line (song_answer p n room)
 
 -- and what standard output gets: a refusal nothing
-abbrev pub with_song : ℕ → ℕ → SongAnswer → List ℕ
-with_song p n (Thefts t) = p ∷ 0 ∷ song n
-with_song p n WrongPolyphony = []
-with_song p n TooLong = []
+abbrev pub with_song : ℕ → ℕ → Result ℕ Refusal → List ℕ
+with_song p n (Ok t) = p ∷ 0 ∷ song n
+with_song p n (Err r) = []
 
 abbrev pub song_to : List ℕ → Request → List ℕ
 song_to room Nothing = []
@@ -57,10 +56,10 @@ song_to room (Song p n) = with_song p n (song_answer p n room)
 
 -- a song put at a page's start, where the page has room for P and the own ID before it: its answer, how many bytes
 -- standard output gets, and the page behind it
-pub record SongPut (p n : ℕ) (old : List ℕ) (a : SongAnswer) (used : ℕ) (new : List ℕ) : Type 0 where
+pub record SongPut (p n : ℕ) (old : List ℕ) (a : Result ℕ Refusal) (used : ℕ) (new : List ℕ) : Type 0 where
   pub answered : 2 ≤ length old → a ≡ song_answer p n (drop 2 old)
   pub put : 2 ≤ length old → take used new ≡ song_to (drop 2 old) (Song p n)
-  pub small : length old ≤ 1 → (a ≡ TooLong) × (used ≡ 0)
+  pub small : length old ≤ 1 → (a ≡ Err refusal.SongTooLong) × (used ≡ 0)
 
 -- R17.2: what an input gets (crate `fields`, specs/Answers)
 abbrev pub answers : List ℕ → List ℕ → List ℕ

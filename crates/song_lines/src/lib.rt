@@ -10,8 +10,8 @@ ghost use Rattle.fields.specs.Answers.{malformed_line};
 ghost use Rattle.song.specs.Song.{song_answer, song_written};
 ghost use Rattle.song_lines.specs.SongLines.{answer_line, line_request, request, end_request, SongPut};
 
-use fields::{Line, at_most};
-use song::SongAnswer;
+use fields::Line;
+use refusals::Refusal;
 use text::{put, put_number};
 
 // What a byte of the input asks for.
@@ -33,40 +33,40 @@ pub struct Step {
 }
 
 // What a line that has ended asks for. A P above 255 is refused as 255 is.
+#[tactic(auto, unfolding(crate::specs::SongLines::line_request))]
 fn ended(c: Line) -> Request
     ensures { result ≡ line_request c }
 {
-    if c.digit & (c.commas == 1) {
-        let polyphony = at_most(255, c.previous as u64) as u8;
+    if c.digit && c.commas == 1 {
+        let polyphony = c.previous.min(255) as u8;
         return Request::Song(polyphony, c.last as usize);
     }
     Request::Malformed
 }
 
 // A byte of the input.
+#[tactic(auto, unfolding(crate::specs::SongLines::request, fields::specs::Line::after))]
 pub fn next(c: Line, b: u8) -> Step
     ensures { (result.line ≡ after c b) × (result.request ≡ request c b) }
 {
     if b == 10 {
-        let line = fields::begin();
-        let asked = ended(c);
         return Step {
-            line: line,
-            request: asked,
+            line: fields::begin(),
+            request: ended(c),
         };
     }
-    let line = fields::read(c, b);
     Step {
-        line: line,
+        line: fields::read(c, b),
         request: Request::Nothing,
     }
 }
 
 // The end of the input: a last line without its 0AH is answered all the same, if it has a byte.
+#[tactic(auto, unfolding(crate::specs::SongLines::end_request))]
 pub fn end(c: Line) -> Request
     ensures { result ≡ end_request c }
 {
-    if !c.digit & (c.commas == 0) {
+    if !c.digit && c.commas == 0 {
         return Request::Nothing;
     }
     ended(c)
@@ -75,12 +75,12 @@ pub fn end(c: Line) -> Request
 // What a song became: its answer, and how many bytes of the page standard output gets.
 #[derive(Clone, Copy)]
 pub struct Written {
-    pub answer: SongAnswer,
+    pub answer: Result<u32, Refusal>,
     pub used: usize,
 }
 
 // The song behind the page's first two bytes, which are for P and the own ID.
-fn write_behind(page: &mut [u8], polyphony: u8, n: usize) -> SongAnswer
+fn write_behind(page: &mut [u8], polyphony: u8, n: usize) -> Result<u32, Refusal>
     requires { 2 ≤ length page.old }
     ensures { (result ≡ song_answer polyphony n (drop 2 page.old))
         × (page.new ≡ take 2 page.old ++ song_written polyphony n (drop 2 page.old)) }
@@ -95,45 +95,40 @@ pub fn put_song(page: &mut [u8], polyphony: u8, n: usize) -> Written
 {
     if page.len() < 2 {
         return Written {
-            answer: SongAnswer::TooLong,
+            answer: Err(Refusal::SongTooLong),
             used: 0,
         };
     }
-    let a = write_behind(page, polyphony, n);
-    match a {
-        SongAnswer::Thefts(t) => {
+    let answer = write_behind(page, polyphony, n);
+    match answer {
+        Ok(_) => {
             page[0] = polyphony;
             page[1] = 0;
             Written {
-                answer: SongAnswer::Thefts(t),
+                answer,
                 used: n + 2,
             }
         }
-        SongAnswer::WrongPolyphony => Written {
-            answer: SongAnswer::WrongPolyphony,
-            used: 0,
-        },
-        SongAnswer::TooLong => Written {
-            answer: SongAnswer::TooLong,
-            used: 0,
-        },
+        Err(_) => Written { answer, used: 0 },
     }
 }
 
 // The answer's line, at the page's start. Where the page has 16 bytes, what stands before the place that it answers is
 // the line, whole.
-pub fn put_answer(page: &mut [u8], a: SongAnswer) -> usize
+pub fn put_answer(page: &mut [u8], a: Result<u32, Refusal>) -> usize
     ensures put { Put page.old 0 (answer_line a) result page.new }
     ensures page_after { 16 ≤ length page.old → take result page.new ≡ answer_line a }
 {
     match a {
-        SongAnswer::Thefts(t) => {
+        Ok(t) => {
             let k = put(page, 0, b"0,");
-            let m = put_number(page, k, t as u64);
+            let m = put_number(page, k, u64::from(t));
             put(page, m, b"\n")
         }
-        SongAnswer::WrongPolyphony => put(page, 0, b"1,0\n"),
-        SongAnswer::TooLong => put(page, 0, b"25,0\n"),
+        Err(r) => {
+            let k = put_number(page, 0, u64::from(r.number()));
+            put(page, k, b",0\n")
+        }
     }
 }
 
