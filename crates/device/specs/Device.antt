@@ -1,10 +1,10 @@
 -- The device by its bytes, from its start on.
 use Rattle.std.specs.Prelude.{ℕ, Bool, ◌||◌, List, [], ◌∷◌, ltb, if◌then◌else◌}
+use Rattle.refusals.specs.declared.Refusal.TheVariants as refusal
 use Rattle.splitter.specs.declared.Parser.{Parser}
 use Rattle.splitter.specs.declared.Completed.{Completed}
 use Rattle.splitter.specs.declared.Completed.TheVariants.{Nothing, Stray, Cut, Message, SysEx}
 use Rattle.splitter.specs.Split.{quiet, body, split}
-use Rattle.splitter.specs.Split as splitting
 use Rattle.message.specs.Message.{decode}
 use Rattle.instrument.specs.declared.Instrument.{Instrument}
 use Rattle.instrument.specs.Instrument.{fresh}
@@ -12,7 +12,7 @@ use Rattle.playing.specs.declared.Answer.{Answer}
 use Rattle.playing.specs.declared.Answer.TheVariants as answer
 use Rattle.playing.specs.declared.Reply.{Reply}
 use Rattle.playing.specs.Playing.{replied, played}
-use Rattle.exclusive.specs.Exclusive.{answer_of, exclusive}
+use Rattle.exclusive.specs.Exclusive.{exclusive}
 use Rattle.device.specs.declared.Device.{Device}
 use Rattle.device.specs.declared.Output.{Output}
 
@@ -30,16 +30,16 @@ is_wrong_p p = ltb p 1 || ltb 64 p
 
 unfoldable pub started : ℕ → ℕ → Output
 started p id =
-    if is_wrong_p p then fresh_output (answer.Number 1) 1 0 else
-    if ltb 126 id then fresh_output (answer.Number 2) 1 0 else
+    if is_wrong_p p then fresh_output (answer.Number refusal.WrongPolyphony) 1 0 else
+    if ltb 126 id then fresh_output (answer.Number refusal.WrongId) 1 0 else
     fresh_output answer.Done p id
 
 -- what a byte completed; p is the parser that it found. R4.12: a channel message is played; R4.13: nothing completed
 -- is answered none; R4.9, R4.10: numbers 4 and 3
 unfoldable pub heard : Instrument → Parser → Completed → Reply
-heard i p Nothing = replied (answer_of (splitting.number_of Nothing)) i
-heard i p Stray = replied (answer_of (splitting.number_of Stray)) i
-heard i p Cut = replied (answer_of (splitting.number_of Cut)) i
+heard i p Nothing = replied answer.Nothing i
+heard i p Stray = replied (answer.Number refusal.Stray) i
+heard i p Cut = replied (answer.Number refusal.Cut) i
 heard i p (Message s a b) = played i (decode s a b)
 heard i p SysEx = exclusive i (body p)
 

@@ -7,6 +7,7 @@ ghost use Rattle.device.specs.Device.{fresh_device, started, heard, byte_taken};
 
 use instrument::Instrument;
 use playing::{Answer, Reply};
+use refusals::Refusal;
 use splitter::{Completed, Parser};
 
 // The device record.
@@ -34,28 +35,27 @@ impl Device {
     fn fresh(polyphony: u8, id: u8) -> Self
         ensures { result ≡ fresh_device polyphony id }
     {
-        let parser = Parser::new();
-        let i = Instrument::fresh(polyphony, id);
         Device {
-            parser: parser,
-            instrument: i,
+            parser: Parser::new(),
+            instrument: Instrument::fresh(polyphony, id),
         }
     }
 }
 
 // A refused start leaves a working device with one generator and own ID 0.
+#[tactic(auto, unfolding(crate::specs::Device::started))]
 pub fn start(polyphony: u8, id: u8) -> Output
     ensures { result ≡ started polyphony id }
 {
-    if (polyphony < 1) | (Device::MOST_GENERATORS < polyphony) {
+    if polyphony < 1 || Device::MOST_GENERATORS < polyphony {
         return Output {
-            answer: Answer::Number(1),
+            answer: Answer::Number(Refusal::WrongPolyphony),
             device: Device::fresh(1, 0),
         };
     }
     if Device::HIGHEST_ID < id {
         return Output {
-            answer: Answer::Number(2),
+            answer: Answer::Number(Refusal::WrongId),
             device: Device::fresh(1, 0),
         };
     }
@@ -66,36 +66,31 @@ pub fn start(polyphony: u8, id: u8) -> Output
 }
 
 // What a byte completed, with parser p as the byte found it.
+#[tactic(auto, unfolding(crate::specs::Device::heard))]
 pub fn take(i: Instrument, p: Parser, c: Completed) -> Reply
     ensures { result ≡ heard i p c }
 {
     match c {
         Completed::Nothing => Reply::new(Answer::Nothing, i),
-        Completed::Stray => Reply::new(Answer::Number(3), i),
-        Completed::Cut => Reply::new(Answer::Number(4), i),
+        Completed::Stray => Reply::new(Answer::Number(Refusal::Stray), i),
+        Completed::Cut => Reply::new(Answer::Number(Refusal::Cut), i),
         Completed::Message(s, a, b) => playing::play(i, message::read(s, a, b)),
         Completed::SysEx => exclusive::take(i, p),
     }
 }
 
 // A MIDI byte.
+#[tactic(auto, unfolding(crate::specs::Device::byte_taken))]
 pub fn byte(d: Device, b: u8) -> Output
     ensures { result ≡ byte_taken d b }
 {
-    let p = d.parser;
-    let i = d.instrument;
-    let s = p.split(b);
-    let c = s.completed;
-    let next = s.parser;
-    let r = take(i, p, c);
-    let after = r.instrument;
-    let answer = r.answer;
-    let device = Device {
-        parser: next,
-        instrument: after,
-    };
+    let s = d.parser.split(b);
+    let r = take(d.instrument, d.parser, s.completed);
     Output {
-        answer: answer,
-        device: device,
+        answer: r.answer,
+        device: Device {
+            parser: s.parser,
+            instrument: r.instrument,
+        },
     }
 }
