@@ -16,25 +16,22 @@ pub enum Event {
 }
 
 // Generator g has rung out (R7.1).
+#[tactic(auto, unfolding(crate::specs::Events::report_taken))]
 pub fn report(d: Device, g: u8) -> Output
     ensures { result ≡ report_taken d g }
 {
-    let parser = d.parser;
-    let i = d.instrument;
-    let r = reports::ended(i, g);
-    let after = r.instrument;
-    let answer = r.answer;
-    let next = Device {
-        parser: parser,
-        instrument: after,
-    };
+    let r = reports::ended(d.instrument, g);
     Output {
-        answer: answer,
-        device: next,
+        answer: r.answer,
+        device: Device {
+            instrument: r.instrument,
+            ..d
+        },
     }
 }
 
 // An event of either kind.
+#[tactic(auto, unfolding(crate::specs::Events::taken))]
 pub fn apply(d: Device, e: Event) -> Output
     ensures { result ≡ taken d e }
 {
