@@ -7,8 +7,6 @@ ghost use Rattle.std.specs.Prelude.{◌≡◌};
 ghost use Rattle.splitter.specs.Split.{begun, quiet, stored, one_data_byte};
 ghost use Rattle.splitter.specs.Split.{at_last, completed, data_byte, ended, split};
 
-use loops::if_else;
-
 // Between two bytes: the status byte in force, 0 for none (F0 while a SysEx is open, F1 to F3 while data bytes are
 // swallowed), the number of data bytes since, and these bytes. Of a SysEx the first 37 are kept and counted: a longer
 // one is as wrong at 37 as at any length.
@@ -21,7 +19,7 @@ pub struct Parser {
 }
 
 // What a byte completed.
-#[derive(Clone, Copy)]
+#[derive(Clone, Copy, PartialEq, Eq)]
 pub enum Completed {
     // Nothing yet, or nothing that counts: a status, a first data byte, a byte of a SysEx, a swallowed or a real_time
     // byte.
@@ -44,11 +42,12 @@ pub struct Split {
 
 impl Parser {
     // A status byte in force, with no data byte yet.
+    #[tactic(auto, unfolding(crate::specs::Split::begun))]
     fn begin(status: u8) -> Self
         ensures { result ≡ begun status }
     {
         Parser {
-            status: status,
+            status,
             count: 0,
             bytes: [0; 37],
         }
@@ -61,6 +60,7 @@ impl Parser {
         Parser::begin(0)
     }
 
+    #[tactic(auto, unfolding(crate::specs::Split::stored))]
     fn store(self, b: u8) -> Self
         ensures { result ≡ stored self b }
     {
@@ -69,11 +69,11 @@ impl Parser {
             return self;
         }
         let mut bytes = self.bytes;
-        bytes[n as usize] = b;
+        bytes[usize::from(n)] = b;
         Parser {
-            status: self.status,
             count: n + 1,
-            bytes: bytes,
+            bytes,
+            ..self
         }
     }
 
@@ -85,17 +85,20 @@ impl Parser {
     }
 
     // What the last data byte completes: nothing where F1 to F3 swallow it.
+    #[tactic(auto, unfolding(crate::specs::Split::completed))]
     fn message(self, b: u8) -> Completed
         ensures { result ≡ (completed self b).completed }
     {
         if 0xF0 <= self.status {
             return Completed::Nothing;
         }
-        let one = one_data_byte(self.status);
-        let bytes = self.bytes;
-        Completed::Message(self.status, if_else(one, b, bytes[0]), if_else(one, 0, b))
+        if one_data_byte(self.status) {
+            return Completed::Message(self.status, b, 0);
+        }
+        Completed::Message(self.status, self.bytes[0], b)
     }
 
+    #[tactic(auto, unfolding(crate::specs::Split::data_byte))]
     fn data_completes(self, b: u8) -> Completed
         ensures { result ≡ (data_byte self b).completed }
     {
@@ -109,6 +112,7 @@ impl Parser {
     }
 
     // What a byte completes.
+    #[tactic(auto, unfolding(crate::specs::Split::split, crate::specs::Split::status_byte))]
     pub fn completes(self, b: u8) -> Completed
         ensures { result ≡ (split self b).completed }
     {
@@ -122,6 +126,7 @@ impl Parser {
     }
 
     // The byte that completes a message keeps the running status; after F1 to F3 there is none.
+    #[tactic(auto, unfolding(crate::specs::Split::data_byte, crate::specs::Split::completed))]
     fn after_data(self, b: u8) -> Self
         ensures { result ≡ (data_byte self b).parser }
     {
@@ -129,12 +134,13 @@ impl Parser {
             return self;
         }
         if self.at_last() {
-            return Parser::begin(if_else(0xF0 <= self.status, 0, self.status));
+            return Parser::begin(if 0xF0 <= self.status { 0 } else { self.status });
         }
         self.store(b)
     }
 
     // The parser after a byte.
+    #[tactic(auto, unfolding(crate::specs::Split::split, crate::specs::Split::status_byte, crate::specs::Split::opened))]
     pub fn after(self, b: u8) -> Self
         ensures { result ≡ (split self b).parser }
     {
@@ -145,7 +151,7 @@ impl Parser {
         if 0xF8 <= b {
             return self;
         }
-        Parser::begin(if_else(b < 0xF4, b, 0))
+        Parser::begin(if b < 0xF4 { b } else { 0 })
     }
 
     // One byte: the parser after it, and what it completed. Two functions, so that who wants one of them does not pay
@@ -160,13 +166,15 @@ impl Parser {
     }
 }
 
+#[tactic(auto, unfolding(crate::specs::Split::one_data_byte))]
 fn one_data_byte(s: u8) -> bool
     ensures { result ≡ one_data_byte s }
 {
-    ((0xC0 <= s) & (s < 0xE0)) | ((s == 0xF1) | (s == 0xF3))
+    matches!(s, 0xC0..=0xDF | 0xF1 | 0xF3)
 }
 
 // What status byte b completes where s was in force.
+#[tactic(auto, unfolding(crate::specs::Split::ended))]
 fn ended(s: u8, b: u8) -> Completed
     ensures { result ≡ ended s b }
 {
