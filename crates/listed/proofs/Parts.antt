@@ -1,7 +1,7 @@
 -- However an input is cut into reads, its bytes list the same: what two parts list one after the other is what the
 -- whole lists. And 128 bytes a byte are room for it.
 -- Assumes nothing.
-use Rattle.std.specs.Prelude.{if◌then◌else◌}
+use Rattle.std.specs.Prelude.{if◌then◌else◌, Some, None}
 use Prim.Native.Nat.{ℕ, ◌+◌, ◌*◌, ◌≤◌, ◌<◌}
 use mathlib.Core.Path.{◌≡◌, refl, sym, ◌∙◌}
 use mathlib.Core.Bool.{Bool, true, false}
@@ -13,7 +13,6 @@ use lib.Seq.{take-suc, take_all, take_at}
 use Rattle.text.specs.Text.{Put}
 use Rattle.text.proofs.Joined.{joined, whole}
 use Rattle.lines.specs.Lines.{line_of}
-use Rattle.lines.specs.declared.Offset.TheVariants.{At, Nowhere}
 use Rattle.lines.proofs.Length.{line-length}
 use Rattle.device.specs.declared.Output.{Output}
 use Rattle.device.specs.Device.{started, byte_taken}
@@ -60,13 +59,13 @@ start_length : (o : Output) → length (start_line o) ≤ 128
 unfolding start_line
 start_length o = go (is_refused (behind_start o.answer))
   where
-    go : (b : Bool) → length (if b then line_of Nowhere o.answer else []) ≤ 128
-    go true = line-length Nowhere o.answer
+    go : (b : Bool) → length (if b then line_of None o.answer else []) ≤ 128
+    go true = line-length None o.answer
     go false = omega arith
 
 midi_length : (l : Lister) (b : ℕ) → length (midi_line l b) ≤ 128
 unfolding midi_line
-midi_length l b = line-length (At l.at) (byte_taken l.device b).answer
+midi_length l b = line-length (Some l.at) (byte_taken l.device b).answer
 
 byte_length : (l : Lister) (b : ℕ) → length (line l b) ≤ 128
 unfolding line
@@ -76,7 +75,7 @@ byte_length l b = go l.awaits
     go Polyphony = omega arith
     go (Id p) = start_length (started p b)
     go Midi = midi_length l b
-    go (Refused n) = omega arith
+    go (Refused r) = omega arith
 
 pub bytes_length : (l : Lister) (bs : List ℕ) → length (listed_by l bs) ≤ 128 * length bs
 unfolding listed_by

@@ -1,10 +1,11 @@
 -- R16.1, R16.6 of what is written for an input: a missing P or ID is 0; a refused start has one line and is the end.
 -- Assumes nothing.
+use Rattle.std.specs.Prelude.{None}
 use Prim.Native.Nat.{ℕ}
 use mathlib.Core.Path.{◌≡◌, refl}
 use mathlib.Core.List.{List, [], ◌∷◌, ◌++◌, append-nil}
 use Rattle.lines.specs.Lines.{line_of}
-use Rattle.lines.specs.declared.Offset.TheVariants.{Nowhere}
+use Rattle.refusals.specs.declared.Refusal.{Refusal}
 use Rattle.playing.specs.declared.Answer.{Answer}
 use Rattle.playing.specs.declared.Answer.TheVariants as answer
 use Rattle.device.specs.declared.Output.{Output}
@@ -20,8 +21,8 @@ unfolding behind_start
 none_missing answer.Nothing = refl
 none_missing answer.Done = refl
 none_missing (answer.Note c k g w) = refl
-none_missing (answer.NoNote n c k) = refl
-none_missing (answer.Number n) = refl
+none_missing (answer.NoNote r c k) = refl
+none_missing (answer.Number r) = refl
 
 -- so the end of the input adds nothing
 end_started : (o : Output) → end_line (start_lister o) ≡ []
@@ -39,7 +40,7 @@ missing-id p =
     rw (append-nil (start_line (started p 0)), end_started (started p 0), append-nil (start_line (started p 0)))
 
 -- where the start was refused, no byte lists or changes anything
-module _ (l : Lister) (n : ℕ) (e : l.awaits ≡ Refused n) where
+module _ (l : Lister) (r : Refusal) (e : l.awaits ≡ Refused r) where
   no_line : (b : ℕ) → line l b ≡ []
   unfolding line
   no_line b = rw e
@@ -58,25 +59,25 @@ module _ (l : Lister) (n : ℕ) (e : l.awaits ≡ Refused n) where
   nothing_changed [] = refl
   nothing_changed (b ∷ bs) = rw (no_change b) (nothing_changed bs)
 
-pub stopped : (o : Output) (n : ℕ) → o.answer ≡ answer.Number n → (start_lister o).awaits ≡ Refused n
+pub stopped : (o : Output) (r : Refusal) → o.answer ≡ answer.Number r → (start_lister o).awaits ≡ Refused r
 unfolding start_lister behind_start
-stopped o n e = rw e
+stopped o r e = rw e
 
-refused-line : (o : Output) (n : ℕ) → o.answer ≡ answer.Number n → start_line o ≡ line_of Nowhere (answer.Number n)
+refused-line : (o : Output) (r : Refusal) → o.answer ≡ answer.Number r → start_line o ≡ line_of None (answer.Number r)
 unfolding start_line behind_start is_refused
-refused-line o n e = rw e
+refused-line o r e = rw e
 
 -- R16.6: a refused start has one line, whatever comes behind it
-pub failed_start : (p id n : ℕ) (bs : List ℕ) → (started p id).answer ≡ answer.Number n
-    → listing (p ∷ id ∷ bs) ≡ heading ++ line_of Nowhere (answer.Number n)
+pub failed_start : (p id : ℕ) (r : Refusal) (bs : List ℕ) → (started p id).answer ≡ answer.Number r
+    → listing (p ∷ id ∷ bs) ≡ heading ++ line_of None (answer.Number r)
 unfolding listing new_lister listed_by after_all line after
-failed_start p id n bs e =
+failed_start p id r bs e =
     let o = started p id in
     rw (
-      nothing-listed (start_lister o) n (stopped o n e) bs,
-      nothing_changed (start_lister o) n (stopped o n e) bs,
+      nothing-listed (start_lister o) r (stopped o r e) bs,
+      nothing_changed (start_lister o) r (stopped o r e) bs,
       append-nil (start_line o),
       end_started o,
       append-nil (start_line o),
-      refused-line o n e,
+      refused-line o r e,
     )

@@ -1,7 +1,6 @@
 -- What an input lists, byte by byte (section 16 of docs/RULES.md).
-use Rattle.std.specs.Prelude.{ℕ, ◌+◌, ◌≡◌, Bool, true, false, List, [], ◌∷◌, ◌++◌, ltb, if◌then◌else◌}
+use Rattle.std.specs.Prelude.{ℕ, ◌+◌, ◌≡◌, Bool, true, false, List, [], ◌∷◌, ◌++◌, ltb, if◌then◌else◌, Some, None}
 use Rattle.text.specs.Text.{Put}
-use Rattle.lines.specs.declared.Offset.TheVariants.{At, Nowhere}
 use Rattle.lines.specs.Lines.{line_of}
 use Rattle.playing.specs.declared.Answer.{Answer}
 use Rattle.playing.specs.declared.Answer.TheVariants as answer
@@ -35,25 +34,25 @@ unfoldable pub behind_start : Answer → Awaits
 behind_start answer.Nothing = Midi
 behind_start answer.Done = Midi
 behind_start (answer.Note c k g w) = Midi
-behind_start (answer.NoNote n c k) = Midi
-behind_start (answer.Number n) = Refused n
+behind_start (answer.NoNote r c k) = Midi
+behind_start (answer.Number r) = Refused r
 
 unfoldable pub is_refused : Awaits → Bool
 is_refused Polyphony = false
 is_refused (Id p) = false
 is_refused Midi = false
-is_refused (Refused n) = true
+is_refused (Refused r) = true
 
 -- R16.6: a refused start has a line; R16.5: a good one has none
 unfoldable pub start_line : Output → List ℕ
-start_line o = if is_refused (behind_start o.answer) then line_of Nowhere o.answer else []
+start_line o = if is_refused (behind_start o.answer) then line_of None o.answer else []
 
 unfoldable pub start_lister : Output → Lister
 start_lister o = record { awaits = behind_start o.answer; at = 0; device = o.device }
 
 -- R16.3: a MIDI byte, by its place from 0 on
 unfoldable pub midi_line : Lister → ℕ → List ℕ
-midi_line l b = line_of (At l.at) (byte_taken l.device b).answer
+midi_line l b = line_of (Some l.at) (byte_taken l.device b).answer
 
 unfoldable pub after_midi : Lister → ℕ → Lister
 after_midi l b = record { awaits = Midi; at = next_offset l.at; device = (byte_taken l.device b).device }
@@ -63,7 +62,7 @@ abbrev pub line_by : Awaits → Lister → ℕ → List ℕ
 line_by Polyphony l b = []
 line_by (Id p) l b = start_line (started p b)
 line_by Midi l b = midi_line l b
-line_by (Refused n) l b = []
+line_by (Refused r) l b = []
 
 unfoldable pub line : Lister → ℕ → List ℕ
 line l b = line_by l.awaits l b
@@ -72,7 +71,7 @@ abbrev pub after_by : Awaits → Lister → ℕ → Lister
 after_by Polyphony l b = record { awaits = Id b; at = l.at; device = l.device }
 after_by (Id p) l b = start_lister (started p b)
 after_by Midi l b = after_midi l b
-after_by (Refused n) l b = l
+after_by (Refused r) l b = l
 
 unfoldable pub after : Lister → ℕ → Lister
 after l b = after_by l.awaits l b
@@ -91,7 +90,7 @@ abbrev pub missing : Awaits → List ℕ
 missing Polyphony = 0 ∷ 0 ∷ []
 missing (Id p) = 0 ∷ []
 missing Midi = []
-missing (Refused n) = []
+missing (Refused r) = []
 
 unfoldable pub end_line : Lister → List ℕ
 end_line l = listed_by l (missing l.awaits)

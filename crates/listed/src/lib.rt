@@ -5,13 +5,13 @@
 ghost use Rattle.std.specs.Prelude.{◌*◌, ◌≤◌, ◌≡◌, length, take};
 ghost use Rattle.text.specs.Text.{Put};
 ghost use Rattle.device.specs.Device.{started};
-ghost use Rattle.listed.specs.Listing.{Lists, heading, new_lister, next_offset, behind_start};
+ghost use Rattle.listed.specs.Listing.{Lists, heading, new_lister, behind_start, missing};
 ghost use Rattle.listed.specs.Listing.{is_refused, start_line, start_lister, midi_line};
 ghost use Rattle.listed.specs.Listing.{after_midi, line, after, listed_by, after_all, end_line};
 
 use device::Device;
-use lines::Offset;
 use playing::Answer;
+use refusals::Refusal;
 
 // Which byte comes next.
 #[derive(Clone, Copy)]
@@ -22,8 +22,8 @@ pub enum Awaits {
     Id(u8),
     // A MIDI byte.
     Midi,
-    // None that counts: the start was refused with this number, and the listing is complete.
-    Refused(u8),
+    // None that counts: the start was refused for this reason, and the listing is complete.
+    Refused(Refusal),
 }
 
 // What is kept from byte to byte: which byte comes next, the offset of the next MIDI byte, and the device.
@@ -42,15 +42,14 @@ pub struct Listed {
 }
 
 // Before the first byte.
+#[tactic(auto, unfolding(crate::specs::Listing::new_lister))]
 pub fn begin() -> Lister
     ensures { result ≡ new_lister }
 {
-    let o = device::start(1, 0);
-    let d = o.device;
     Lister {
         awaits: Awaits::Polyphony,
         at: 0,
-        device: d,
+        device: device::start(1, 0).device,
     }
 }
 
@@ -61,94 +60,69 @@ pub fn put_heading(page: &mut [u8]) -> usize
     text::put(page, 0, b"at,what,channel,key,generator,was\n")
 }
 
-fn next(at: u64) -> u64
-    ensures { result ≡ next_offset at }
-{
-    if at < u64::MAX {
-        return at + 1;
-    }
-    at
-}
-
 // What comes behind a start that is answered so: a start answers a number or *done*.
+#[tactic(auto, unfolding(crate::specs::Listing::behind_start))]
 fn behind_start(a: Answer) -> Awaits
     ensures { result ≡ behind_start a }
 {
     match a {
-        Answer::Nothing => Awaits::Midi,
-        Answer::Done => Awaits::Midi,
-        Answer::Note(_, _, _, _) => Awaits::Midi,
-        Answer::NoNote(_, _, _) => Awaits::Midi,
-        Answer::Number(n) => Awaits::Refused(n),
+        Answer::Number(refusal) => Awaits::Refused(refusal),
+        _ => Awaits::Midi,
     }
 }
 
 // Whether the start was refused, so that no byte counts any more.
+#[tactic(auto, unfolding(crate::specs::Listing::is_refused))]
 pub fn is_refused(a: Awaits) -> bool
     ensures { result ≡ is_refused a }
 {
-    match a {
-        Awaits::Polyphony => false,
-        Awaits::Id(_) => false,
-        Awaits::Midi => false,
-        Awaits::Refused(_) => true,
-    }
+    matches!(a, Awaits::Refused(_))
 }
 
 // The start: a refused one lists its number and takes no byte more.
+#[tactic(auto, using(text::proofs::Joined::nothing_put), unfolding(crate::specs::Listing::start_line, crate::specs::Listing::start_lister))]
 fn list_start(page: &mut [u8], used: &mut usize, polyphony: u8, id: u8) -> Lister
     ensures { Lists page.old used.old (start_line (started polyphony id))
         (start_lister (started polyphony id)) result used.new page.new }
 {
     let o = device::start(polyphony, id);
-    let answer = o.answer;
-    let d = o.device;
-    let awaits = behind_start(answer);
-    let l = Lister {
-        awaits: awaits,
-        at: 0,
-        device: d,
-    };
+    let awaits = behind_start(o.answer);
     if is_refused(awaits) {
-        let at = *used;
-        *used = lines::put_line(page, at, Offset::Nowhere, answer);
-        return l;
+        *used = lines::put_line(page, *used, None, o.answer);
     }
-    l
+    Lister {
+        awaits,
+        at: 0,
+        device: o.device,
+    }
 }
 
 // A MIDI byte.
+#[tactic(auto, unfolding(crate::specs::Listing::midi_line, crate::specs::Listing::after_midi, crate::specs::Listing::next_offset))]
 fn list_byte(l: Lister, page: &mut [u8], used: &mut usize, b: u8) -> Lister
     ensures { Lists page.old used.old
         (midi_line l b) (after_midi l b) result used.new page.new }
 {
     let o = device::byte(l.device, b);
-    let answer = o.answer;
-    let d = o.device;
-    let at = *used;
-    *used = lines::put_line(page, at, Offset::At(l.at), answer);
+    *used = lines::put_line(page, *used, Some(l.at), o.answer);
     Lister {
         awaits: Awaits::Midi,
-        at: next(l.at),
-        device: d,
+        at: l.at.saturating_add(1),
+        device: o.device,
     }
 }
 
 // One byte of the input: P, the ID or a MIDI byte.
+#[tactic(auto, using(text::proofs::Joined::nothing_put), unfolding(crate::specs::Listing::line, crate::specs::Listing::after))]
 fn one(l: Lister, page: &mut [u8], used: &mut usize, b: u8) -> Lister
     ensures { Lists page.old used.old
         (line l b) (after l b) result used.new page.new }
 {
-    let awaits = l.awaits;
-    match awaits {
-        Awaits::Polyphony => {
-            let d = l.device;
-            Lister {
-                awaits: Awaits::Id(b),
-                at: l.at,
-                device: d,
-            }
-        }
+    match l.awaits {
+        Awaits::Polyphony => Lister {
+            awaits: Awaits::Id(b),
+            ..l
+        },
         Awaits::Id(polyphony) => list_start(page, used, polyphony, b),
         Awaits::Midi => list_byte(l, page, used, b),
         Awaits::Refused(_) => l,
@@ -163,35 +137,29 @@ pub fn all(l: Lister, page: &mut [u8], bytes: &[u8]) -> Listed
     ensures page_after { 128 * length bytes.now ≤ length page.old
         → take result.used page.new ≡ listed_by l bytes.now }
 {
-    let mut k = l;
+    let mut lister = l;
     let mut used = 0;
-    let mut i = 0;
-    while i < bytes.len() {
-        k = one(k, page, &mut used, bytes[i]);
-        i += 1;
+    for b in bytes {
+        lister = one(lister, page, &mut used, *b);
     }
-    Listed {
-        lister: k,
-        used: used,
+    Listed { lister, used }
+}
+
+// The bytes that the end of an input leaves missing, which are zeros (R16.1).
+pub fn missing(a: Awaits) -> &'static [u8]
+    ensures { result.now ≡ missing a }
+{
+    match a {
+        Awaits::Polyphony => b"\0\0",
+        Awaits::Id(_) => b"\0",
+        Awaits::Midi | Awaits::Refused(_) => b"",
     }
 }
 
 // The end of the input (R16.1).
+#[tactic(auto, unfolding(crate::specs::Listing::end_line))]
 pub fn end(l: Lister, page: &mut [u8]) -> usize
     ensures { Put page.old 0 (end_line l) result page.new }
 {
-    let awaits = l.awaits;
-    match awaits {
-        Awaits::Polyphony => {
-            let s = all(l, page, b"\0\0");
-            s.used
-        }
-        Awaits::Id(polyphony) => {
-            let mut used = 0;
-            list_start(page, &mut used, polyphony, 0);
-            used
-        }
-        Awaits::Midi => 0,
-        Awaits::Refused(_) => 0,
-    }
+    all(l, page, missing(l.awaits)).used
 }
