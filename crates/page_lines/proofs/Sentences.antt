@@ -9,6 +9,9 @@ use mathlib.Core.List.{List, [], ◌∷◌, ◌++◌, flatten}
 use borrow.Author.Tests.{lt-ltb, le-ltb}
 use lib.ListN.{length}
 use Rattle.text.specs.Text.{decimal_within}
+use Rattle.refusals.specs.declared.Refusal.{Refusal}
+use Rattle.refusals.specs.declared.Refusal.TheVariants as refusal
+use Rattle.refusals.specs.Refusals.{number}
 use Rattle.playing.specs.declared.Answer.TheVariants as answer
 use Rattle.device.specs.declared.Device.{Device}
 use Rattle.device.specs.declared.Output.{Output}
@@ -54,28 +57,28 @@ missing-id p = ap answer_text (sym (ended-started (started p 0)))
 
 -- ---- a refused start
 
-refused-text : (l : Lister) (n : ℕ) → l.awaits ≡ Refused n → answer_text (ended l) ≡ number_line n
+refused-text : (l : Lister) (r : Refusal) → l.awaits ≡ Refused r → answer_text (ended l) ≡ number_line (number r)
 unfolding answer_text ended after_all
-refused-text l n e = rw e
+refused-text l r e = rw e
 
 -- it is known at once: what comes behind it changes nothing
-pub known : (ps : List (List ℕ)) (rest : List ℕ) (n : ℕ)
-    → (parts_taken new_lister ps).awaits ≡ Refused n → paged (flatten ps ++ rest) ≡ number_line n
+pub known : (ps : List (List ℕ)) (rest : List ℕ) (r : Refusal)
+    → (parts_taken new_lister ps).awaits ≡ Refused r → paged (flatten ps ++ rest) ≡ number_line (number r)
 unfolding paged
-known ps rest n e =
+known ps rest r e =
     let l = parts_taken new_lister ps in
     let k : after_all new_lister (flatten ps ++ rest) ≡ l =
     after_parts new_lister (flatten ps) rest
-    ∙ ap (λ (x : Lister). after_all x rest) (sym (parts_taken_lem new_lister ps)) ∙ nothing_changed l n e rest in
-    ap (λ (x : Lister). answer_text (ended x)) k ∙ refused-text l n e
+    ∙ ap (λ (x : Lister). after_all x rest) (sym (parts_taken_lem new_lister ps)) ∙ nothing_changed l r e rest in
+    ap (λ (x : Lister). answer_text (ended x)) k ∙ refused-text l r e
 
-pub refused_start : (p id n : ℕ) (bs : List ℕ)
-    → (started p id).answer ≡ answer.Number n → paged (p ∷ id ∷ bs) ≡ number_line n
+pub refused_start : (p id : ℕ) (r : Refusal) (bs : List ℕ)
+    → (started p id).answer ≡ answer.Number r → paged (p ∷ id ∷ bs) ≡ number_line (number r)
 unfolding paged new_lister after_all after
-refused_start p id n bs e =
+refused_start p id r bs e =
     let o = started p id in
-    ap (λ (x : Lister). answer_text (ended x)) (nothing_changed (start_lister o) n (stopped o n e) bs)
-    ∙ refused-text (start_lister o) n (stopped o n e)
+    ap (λ (x : Lister). answer_text (ended x)) (nothing_changed (start_lister o) r (stopped o r e) bs)
+    ∙ refused-text (start_lister o) r (stopped o r e)
 
 -- R8.1, R8.2: a wrong P and a wrong own ID
 pub lines_written : (number_line 1 ≡ 49 ∷ 10 ∷ []) × (number_line 2 ≡ 50 ∷ 10 ∷ [])
@@ -84,11 +87,11 @@ lines_written = (refl, refl)
 
 pub wrong_p : (p id : ℕ) (bs : List ℕ) → is_wrong_p p ≡ true → paged (p ∷ id ∷ bs) ≡ 49 ∷ 10 ∷ []
 unfolding started
-wrong_p p id bs e = refused_start p id 1 bs (rw e) ∙ lines_written.0
+wrong_p p id bs e = refused_start p id refusal.WrongPolyphony bs (rw e) ∙ lines_written.0
 
 pub wrong_id : (p id : ℕ) (bs : List ℕ) → is_wrong_p p ≡ false → 126 < id → paged (p ∷ id ∷ bs) ≡ 50 ∷ 10 ∷ []
 unfolding started
-wrong_id p id bs e h = refused_start p id 2 bs (rw (e, lt-ltb 126 id h)) ∙ lines_written.1
+wrong_id p id bs e h = refused_start p id refusal.WrongId bs (rw (e, lt-ltb 126 id h)) ∙ lines_written.1
 
 -- ---- a good start
 

@@ -4,6 +4,7 @@
 -- Assumes nothing.
 use Rattle.std.specs.Prelude.{ℕ, ◌≡◌, List, [], ◌∷◌, ◌++◌, ltb, length, if◌then◌else◌}
 use Rattle.text.specs.Text.{Put, decimal}
+use Rattle.refusals.specs.Refusals.{number}
 use Rattle.device.specs.declared.Device.{Device}
 use Rattle.listed.specs.declared.Awaits.{Awaits}
 use Rattle.listed.specs.declared.Awaits.TheVariants.{Polyphony, Id, Midi, Refused}
@@ -29,7 +30,7 @@ abbrev pub answer_by : Awaits → Device → List ℕ
 answer_by Polyphony d = []
 answer_by (Id p) d = []
 answer_by Midi d = page_text d
-answer_by (Refused n) d = number_line n
+answer_by (Refused r) d = number_line (number r)
 
 -- how that goes into a page: the service page whole or not at all, a number's line as far as there is room; the place
 -- behind it, and the page then
@@ -40,7 +41,7 @@ abbrev pub AnswerPut : Awaits → Device → List ℕ → ℕ → List ℕ → T
 AnswerPut Polyphony d old next new = (next ≡ 0) × (new ≡ old)
 AnswerPut (Id p) d old next new = (next ≡ 0) × (new ≡ old)
 AnswerPut Midi d old next new = (next ≡ page_room old) × (new ≡ page_after d old)
-AnswerPut (Refused n) d old next new = Put old 0 (number_line n) next new
+AnswerPut (Refused r) d old next new = Put old 0 (number_line (number r)) next new
 
 unfoldable pub answer_text : Lister → List ℕ
 answer_text l = answer_by l.awaits l.device
