@@ -1,5 +1,6 @@
 -- Where a line stands in the page, and a field in its line.
 -- Assumes nothing.
+use Rattle.std.specs.Prelude.{Option, Some, None}
 use Prim.Native.Nat.{ℕ, zero, suc, ◌+◌, ◌*◌, ◌≤◌, ◌<◌}
 use mathlib.Core.Path.{◌≡◌, refl, ap, ◌∙◌}
 use mathlib.Core.Bool.{Bool, true, false}
@@ -10,10 +11,7 @@ use lib.Dec.{ltb}
 use lib.ListN.{length, take, drop, length-drop}
 use lib.Seq.{take_all, take-append-le, drop-append-le, drop-append-add, drop_at}
 use Rattle.table.specs.declared.Entry.{Entry}
-use Rattle.shares.specs.declared.Share.{Share}
-use Rattle.shares.specs.declared.Share.TheVariants.{Masked, Units}
 use Rattle.service.specs.declared.Standing.{Standing}
-use Rattle.service.specs.declared.Standing.TheVariants.{Listed, Unlisted}
 use Rattle.service.specs.Page.{in_two, in_three, place_field, value_field}
 use Rattle.service.specs.Page.{share_field, mark, head, line, row, rows_to, page_of}
 use Rattle.service.proofs.Lines.{row-length, rows_length}
@@ -62,7 +60,7 @@ module _ (t : List Entry) (p : ℕ) (busy : ℕ → ℕ) where
       (ap (λ (l : List ℕ). take 19 l) (drop-append-add head (rows_to t p busy 16) (19 * k)) ∙ row_at 16 k (omega arith))
 
 -- the fields of a line
-module _ (c : ℕ) (at : Standing) (s : Share) (busy : ℕ) where
+module _ (c : ℕ) (at : Option Standing) (s : Option ℕ) (busy : ℕ) where
   abbrev cut : ℕ → ℕ → List ℕ
   cut a w = take w (drop a (line c at s busy))
 
@@ -74,44 +72,44 @@ module _ (c : ℕ) (at : Standing) (s : Share) (busy : ℕ) where
   unfolding line in_two
   cut_place = go at
     where
-      go : (x : Standing) → take 2 (drop 3 (line c x s busy)) ≡ place_field x
-      go (Listed k v) = refl
-      go Unlisted = refl
+      go : (x : Option Standing) → take 2 (drop 3 (line c x s busy)) ≡ place_field x
+      go (Some k) = refl
+      go None = refl
 
   pub cut_value : cut 6 3 ≡ value_field at
   unfolding line in_two in_three
   cut_value = go at
     where
-      go : (x : Standing) → take 3 (drop 6 (line c x s busy)) ≡ value_field x
-      go (Listed k v) = refl
-      go Unlisted = refl
+      go : (x : Option Standing) → take 3 (drop 6 (line c x s busy)) ≡ value_field x
+      go (Some k) = refl
+      go None = refl
 
   pub cut_share : cut 10 3 ≡ share_field s
   unfolding line in_two in_three
   cut_share = go at s
     where
-      go : (x : Standing) (y : Share) → take 3 (drop 10 (line c x y busy)) ≡ share_field y
-      go (Listed k v) Masked = refl
-      go (Listed k v) (Units n) = refl
-      go Unlisted Masked = refl
-      go Unlisted (Units n) = refl
+      go : (x : Option Standing) (y : Option ℕ) → take 3 (drop 10 (line c x y busy)) ≡ share_field y
+      go (Some k) None = refl
+      go (Some k) (Some n) = refl
+      go None None = refl
+      go None (Some n) = refl
 
   pub cut_mark : cut 14 1 ≡ mark s ∷ []
   unfolding line in_two in_three
   cut_mark = go at s
     where
-      go : (x : Standing) (y : Share) → take 1 (drop 14 (line c x y busy)) ≡ mark y ∷ []
-      go (Listed k v) Masked = refl
-      go (Listed k v) (Units n) = refl
-      go Unlisted Masked = refl
-      go Unlisted (Units n) = refl
+      go : (x : Option Standing) (y : Option ℕ) → take 1 (drop 14 (line c x y busy)) ≡ mark y ∷ []
+      go (Some k) None = refl
+      go (Some k) (Some n) = refl
+      go None None = refl
+      go None (Some n) = refl
 
   pub cut_notes : cut 16 2 ≡ in_two busy
   unfolding line in_two in_three
   cut_notes = go at s
     where
-      go : (x : Standing) (y : Share) → take 2 (drop 16 (line c x y busy)) ≡ in_two busy
-      go (Listed k v) Masked = refl
-      go (Listed k v) (Units n) = refl
-      go Unlisted Masked = refl
-      go Unlisted (Units n) = refl
+      go : (x : Option Standing) (y : Option ℕ) → take 2 (drop 16 (line c x y busy)) ≡ in_two busy
+      go (Some k) None = refl
+      go (Some k) (Some n) = refl
+      go None None = refl
+      go None (Some n) = refl

@@ -1,6 +1,7 @@
 -- The page agrees with the queries. A generator from P on is idle, so that asking for all 256 numbers counts what the
 -- record's pass over 64 counts.
 -- Assumes nothing.
+use Rattle.std.specs.Prelude.{Option, Some, None, Ok, unwrap_or}
 use Prim.Native.Nat.{ℕ, ◌≤◌}
 use mathlib.Core.Path.{◌≡◌, refl, sym, ap, ◌∙◌}
 use mathlib.Core.Bool.{Bool, true, false, ◌&&◌}
@@ -11,13 +12,11 @@ use lib.Dec.{leb}
 use Rattle.loops.specs.Cases.{bit}
 use Rattle.loops.proofs.Totals.{total-same}
 use Rattle.table.specs.Table.{entries_of}
-use Rattle.shares.specs.declared.Share.{Share}
-use Rattle.shares.specs.declared.Share.TheVariants.{Masked, Units}
-use Rattle.shares.specs.Shares.{is_channel, share_of}
+use Rattle.shares.specs.Shares.{is_channel, is_masked, share_of}
 use Rattle.generators.specs.Generators.{Generator, at, is_idle, is_busy, is_busy_on}
 use Rattle.candidates.specs.Candidates.{busy_count}
 use Rattle.device.specs.declared.Device.{Device}
-use Rattle.queries.specs.Queries.{generator_query, mask_answer, share_answer, mask_query, share_query}
+use Rattle.queries.specs.Queries.{generator_query, mask_query, share_query}
 use Rattle.service.specs.Page.{share_field, mark, row, page_text}
 use Rattle.note_book.specs.Claim.{after, Live, begin}
 use Rattle.note_book.proofs.Playable.{idle_busy}
@@ -28,13 +27,13 @@ use Rattle.shown.proofs.Fields.{line_at_lem, cut_channel, cut_place, cut_value, 
 
 -- ---- masks and shares
 
-share_told_lem : (s : Share) → share_field s ≡ share_told (mask_answer s) (share_answer s)
-share_told_lem Masked = refl
-share_told_lem (Units n) = refl
+share_told_lem : (s : Option ℕ) → share_field s ≡ share_told (Ok (is_masked s)) (Ok (unwrap_or s 0))
+share_told_lem None = refl
+share_told_lem (Some n) = refl
 
-mark_told_lem : (s : Share) → mark s ∷ [] ≡ mark_told (mask_answer s)
-mark_told_lem Masked = refl
-mark_told_lem (Units n) = refl
+mark_told_lem : (s : Option ℕ) → mark s ∷ [] ≡ mark_told (Ok (is_masked s))
+mark_told_lem None = refl
+mark_told_lem (Some n) = refl
 
 -- ---- generators
 

@@ -1,7 +1,7 @@
 -- The page's bytes are 17 lines of text, for every record of bytes: each field has characters, since a place is at most
 -- 16, a count at most 64, and values and shares fit a byte. And numbers are right_aligned.
 -- Assumes nothing.
-use Rattle.std.specs.Prelude.{if◌then◌else◌}
+use Rattle.std.specs.Prelude.{if◌then◌else◌, Option, Some, None}
 use Prim.Native.Nat.{ℕ, zero, suc, ◌+◌, ◌-◌, ◌/◌, ◌%◌, ◌≤◌, ◌<◌}
 use mathlib.Core.Path.{◌≡◌, refl}
 use mathlib.Core.Bool.{Bool, true, false, ◌&&◌}
@@ -15,8 +15,6 @@ use Rattle.loops.proofs.Tests.{and_left, and_right}
 use Rattle.loops.proofs.Totals.{total_bits}
 use Rattle.table.specs.declared.Entry.{Entry}
 use Rattle.table.specs.Table.{entry, entries_of}
-use Rattle.shares.specs.declared.Share.{Share}
-use Rattle.shares.specs.declared.Share.TheVariants.{Masked, Units}
 use Rattle.shares.specs.Shares.{shares_from, lookup}
 use Rattle.generators.specs.declared.Generators.{Generators}
 use Rattle.generators.specs.Generators.{at, is_busy_on}
@@ -24,7 +22,6 @@ use Rattle.candidates.specs.Candidates.{busy_count}
 use Rattle.device.specs.declared.Device.{Device}
 use Rattle.event_line.specs.Log.{decimal}
 use Rattle.service.specs.declared.Standing.{Standing}
-use Rattle.service.specs.declared.Standing.TheVariants.{Listed, Unlisted}
 use Rattle.service.specs.Page.{in_two, in_three, standing_from, place_field, value_field}
 use Rattle.service.specs.Page.{share_field, mark, head, line, row, page_text}
 use Rattle.service.proofs.Lines.{page-length}
@@ -80,13 +77,13 @@ blank l h = ((omega arith, omega arith), h)
 -- ---- the fields of a record of bytes
 
 -- a place and a value, a share, that have room
-abbrev Fits : Standing → Type 0
-Fits (Listed k v) = (k < 100) × (v < 256)
-Fits Unlisted = Unit {0}
+abbrev Fits : Option Standing → Type 0
+Fits (Some s) = (s.place < 100) × (s.value < 256)
+Fits None = Unit {0}
 
-abbrev ShareFits : Share → Type 0
-ShareFits Masked = Unit {0}
-ShareFits (Units n) = n < 256
+abbrev ShareFits : Option ℕ → Type 0
+ShareFits None = Unit {0}
+ShareFits (Some n) = n < 256
 
 standing_fits : (k c : ℕ) (l : List Entry) → k + length l ≤ 100 → Bytes l → Fits (standing_from k c l)
 unfolding standing_from
@@ -94,7 +91,7 @@ standing_fits k c [] h b = tt
 standing_fits k c (e ∷ l) h b = go (eqb c e.channel) (standing_fits (k + 1) c l (omega arith) b.1)
   where
     go : (t : Bool) → Fits (standing_from (k + 1) c l)
-        → Fits (if t then Listed k e.value else standing_from (k + 1) c l)
+        → Fits (if t then Some (record { place = k; value = e.value }) else standing_from (k + 1) c l)
     go true ih = (omega arith, b.0)
     go false ih = ih
 
@@ -113,26 +110,26 @@ share_fits p c v (e ∷ l) b = go (leb e.value p) (eqb c e.channel) refl (share_
     go true false q ih = rw q ih
     go false u q ih = ih
 
-place-characters : (at : Standing) → Fits at → Characters (place_field at)
-place-characters (Listed k v) h = two_characters k h.0
-place-characters Unlisted h = ((omega arith, omega arith), ((omega arith, omega arith), tt))
+place-characters : (at : Option Standing) → Fits at → Characters (place_field at)
+place-characters (Some s) h = two_characters s.place h.0
+place-characters None h = ((omega arith, omega arith), ((omega arith, omega arith), tt))
 
-value-characters : (at : Standing) → Fits at → Characters (value_field at)
-value-characters (Listed k v) h = three_characters v h.1
-value-characters Unlisted h =
+value-characters : (at : Option Standing) → Fits at → Characters (value_field at)
+value-characters (Some s) h = three_characters s.value h.1
+value-characters None h =
     ((omega arith, omega arith), ((omega arith, omega arith), ((omega arith, omega arith), tt)))
 
-share-characters : (s : Share) → ShareFits s → Characters (share_field s)
-share-characters Masked h = ((omega arith, omega arith), ((omega arith, omega arith), ((omega arith, omega arith), tt)))
-share-characters (Units n) h = three_characters n h
+share-characters : (s : Option ℕ) → ShareFits s → Characters (share_field s)
+share-characters None h = ((omega arith, omega arith), ((omega arith, omega arith), ((omega arith, omega arith), tt)))
+share-characters (Some n) h = three_characters n h
 
-mark_character : (s : Share) → (32 ≤ mark s) × (mark s ≤ 126)
-mark_character Masked = (omega arith, omega arith)
-mark_character (Units n) = (omega arith, omega arith)
+mark_character : (s : Option ℕ) → (32 ≤ mark s) × (mark s ≤ 126)
+mark_character None = (omega arith, omega arith)
+mark_character (Some n) = (omega arith, omega arith)
 
 -- ---- the lines
 
-module _ (c : ℕ) (at : Standing) (s : Share) (busy : ℕ) where
+module _ (c : ℕ) (at : Option Standing) (s : Option ℕ) (busy : ℕ) where
   abbrev text : List ℕ
   text = in_two c ++ 32 ∷ place_field at ++ 32 ∷ value_field at ++ 32 ∷ share_field s ++ 32 ∷ mark s ∷ 32 ∷ in_two busy
 
@@ -140,13 +137,13 @@ module _ (c : ℕ) (at : Standing) (s : Share) (busy : ℕ) where
   unfolding in_two in_three
   text-length = go at s
     where
-      go : (x : Standing) (y : Share)
+      go : (x : Option Standing) (y : Option ℕ)
           → length (in_two c ++ 32 ∷ place_field x ++ 32 ∷ value_field x
           ++ 32 ∷ share_field y ++ 32 ∷ mark y ∷ 32 ∷ in_two busy) ≡ 18
-      go (Listed k v) Masked = refl
-      go (Listed k v) (Units n) = refl
-      go Unlisted Masked = refl
-      go Unlisted (Units n) = refl
+      go (Some k) None = refl
+      go (Some k) (Some n) = refl
+      go None None = refl
+      go None (Some n) = refl
 
   text-characters : c < 100 → Fits at → ShareFits s → busy < 100 → Characters text
   text-characters hc ha hs hb =

@@ -1,9 +1,10 @@
 -- The claims bite. First their words: a claim emptied behind its name would not give these facts. Then a page, computed
 -- from the definitions: what stands on it after a list of bytes.
 -- Assumes nothing.
+use Rattle.std.specs.Prelude.{Ok}
 use Prim.Native.Nat.{ℕ, zero, suc, ◌+◌, ◌*◌, ◌<◌}
 use mathlib.Core.Path.{◌≡◌, refl, ap, ◌∙◌}
-use mathlib.Core.Bool.{◌&&◌}
+use mathlib.Core.Bool.{true, false, ◌&&◌}
 use mathlib.Core.List.{List, [], ◌∷◌, ◌++◌}
 use native.Mathlib.Omega.{arith}
 use lib.ListN.{length, take, drop, replicate, length-append}
@@ -38,8 +39,6 @@ use Rattle.device.specs.Device.{started, heard, byte_taken}
 use Rattle.events.specs.declared.Event.{Event}
 use Rattle.events.specs.declared.Event.TheVariants.{Byte}
 use Rattle.events.specs.Events.{report_taken, taken}
-use Rattle.queries.specs.declared.MaskAnswer.TheVariants.{IsMasked, IsUnmasked}
-use Rattle.queries.specs.declared.ShareAnswer.TheVariants.{ShareIs}
 use Rattle.queries.specs.Queries.{generator_query, mask_query, share_query}
 use Rattle.event_line.specs.Log.{decimal}
 use Rattle.service.specs.Page.{in_two, in_three, standing_from, place_field, value_field}
@@ -74,10 +73,10 @@ module _ (d : Device) (c : ℕ) (a : Agrees d c) where
   pub value_shown : field 6 3 c d ≡ value_field (standing_from 1 c (entries_of d.instrument.table))
   value_shown = a.value
 
-  pub mask_shown : mask_query d c ≡ IsMasked → (field 14 1 c d ≡ 77 ∷ []) × (field 10 3 c d ≡ 45 ∷ 45 ∷ 45 ∷ [])
+  pub mask_shown : mask_query d c ≡ Ok true → (field 14 1 c d ≡ 77 ∷ []) × (field 10 3 c d ≡ 45 ∷ 45 ∷ 45 ∷ [])
   mask_shown m = (a.mark ∙ rw m refl, a.share ∙ rw m refl)
 
-  pub share_shown : (n : ℕ) → mask_query d c ≡ IsUnmasked → share_query d c ≡ ShareIs n
+  pub share_shown : (n : ℕ) → mask_query d c ≡ Ok false → share_query d c ≡ Ok n
       → (field 14 1 c d ≡ 45 ∷ []) × (field 10 3 c d ≡ in_three n)
   share_shown n m s = (a.mark ∙ rw m refl, a.share ∙ rw (m, s) refl)
 

@@ -1,8 +1,9 @@
 -- What the service page shows, said without its code: the page is that of the note book of demand 3; it agrees with
 -- the queries; and its bytes are 17 lines of text.
 -- Assumes nothing.
-use Rattle.std.specs.Prelude.{ℕ, ◌+◌, ◌-◌, ◌*◌, ◌≤◌, ◌<◌, ◌≡◌, Bool, false, ◌&&◌, ◌||◌, eqb}
-use Rattle.std.specs.Prelude.{List, [], ◌∷◌, ◌++◌, length, take, drop, get_or, replicate}
+use Rattle.std.specs.Prelude.{ℕ, ◌+◌, ◌-◌, ◌*◌, ◌≤◌, ◌<◌, ◌≡◌, Bool, true, false, ◌&&◌, ◌||◌, eqb}
+use Rattle.std.specs.Prelude.{List, [], ◌∷◌, ◌++◌, length, take, drop, get_or, replicate, Result, Ok, Err}
+use Rattle.refusals.specs.declared.Refusal.{Refusal}
 use Rattle.loops.specs.Cases.{bit}
 use Rattle.loops.specs.Passes.{total}
 use Rattle.table.specs.declared.Entry.{Entry}
@@ -11,12 +12,7 @@ use Rattle.table.specs.Table.{entries_of}
 use Rattle.generators.specs.Generators.{held, sustained}
 use Rattle.device.specs.declared.Device.{Device}
 use Rattle.events.specs.declared.Event.{Event}
-use Rattle.queries.specs.declared.GeneratorAnswer.{GeneratorAnswer}
-use Rattle.queries.specs.declared.GeneratorAnswer.TheVariants.{GeneratorIs, NoGenerator}
-use Rattle.queries.specs.declared.MaskAnswer.{MaskAnswer}
-use Rattle.queries.specs.declared.MaskAnswer.TheVariants.{IsMasked, IsUnmasked, NoSuchChannel}
-use Rattle.queries.specs.declared.ShareAnswer.{ShareAnswer}
-use Rattle.queries.specs.declared.ShareAnswer.TheVariants.{ShareIs, NotAChannel}
+use Rattle.queries.specs.declared.GeneratorState.{GeneratorState}
 use Rattle.queries.specs.Queries.{generator_query, mask_query, share_query}
 use Rattle.event_line.specs.Log.{decimal}
 use Rattle.service.specs.Page.{in_two, in_three, standing_from, place_field, value_field, page_of, page_text}
@@ -38,25 +34,25 @@ ShowsTheBook =
 -- ---- the queries
 
 -- a share and a mask as the queries answer them, in the page's characters
-abbrev pub share_told : MaskAnswer → ShareAnswer → List ℕ
-share_told IsUnmasked (ShareIs n) = in_three n
-share_told IsUnmasked NotAChannel = []
-share_told IsMasked a = 45 ∷ 45 ∷ 45 ∷ []
-share_told NoSuchChannel a = []
+abbrev pub share_told : Result Bool Refusal → Result ℕ Refusal → List ℕ
+share_told (Ok false) (Ok n) = in_three n
+share_told (Ok false) (Err r) = []
+share_told (Ok true) a = 45 ∷ 45 ∷ 45 ∷ []
+share_told (Err r) a = []
 
-abbrev pub mark_told : MaskAnswer → List ℕ
-mark_told IsMasked = 77 ∷ []
-mark_told IsUnmasked = 45 ∷ []
-mark_told NoSuchChannel = []
+abbrev pub mark_told : Result Bool Refusal → List ℕ
+mark_told (Ok true) = 77 ∷ []
+mark_told (Ok false) = 45 ∷ []
+mark_told (Err r) = []
 
 -- a generator that a query tells to be held or sustained; one on channel c
-abbrev pub is_busy_told : GeneratorAnswer → Bool
-is_busy_told (GeneratorIs state channel key) = eqb state held || eqb state sustained
-is_busy_told NoGenerator = false
+abbrev pub is_busy_told : Result GeneratorState Refusal → Bool
+is_busy_told (Ok s) = eqb s.state held || eqb s.state sustained
+is_busy_told (Err r) = false
 
-abbrev pub is_on_told : ℕ → GeneratorAnswer → Bool
-is_on_told c (GeneratorIs state channel key) = eqb channel c
-is_on_told c NoGenerator = false
+abbrev pub is_on_told : ℕ → Result GeneratorState Refusal → Bool
+is_on_told c (Ok s) = eqb s.channel c
+is_on_told c (Err r) = false
 
 -- how many of the 256 numbers that one may ask for are busy on channel c; and how many are busy at all
 abbrev pub busy_told : Device → ℕ → ℕ
