@@ -1,5 +1,6 @@
 -- What a byte touches of the record, by what it completed: most touch the parser alone, and a note-on the generators.
-use Rattle.std.specs.Prelude.{Bool, true, false}
+use Rattle.std.specs.Prelude.{Bool, true, false, Option, Some, None}
+use Rattle.refusals.specs.declared.Refusal.TheVariants as refusal
 use Rattle.splitter.specs.declared.Completed.{Completed}
 use Rattle.splitter.specs.declared.Completed.TheVariants as completed
 use Rattle.message.specs.declared.Message.{Message}
@@ -20,26 +21,23 @@ is_quiet completed.SysEx = false
 -- the answer to one of them; of any other it says nothing
 abbrev pub quiet_answer : Completed → Answer
 quiet_answer completed.Nothing = answer.Nothing
-quiet_answer completed.Stray = answer.Number 3
-quiet_answer completed.Cut = answer.Number 4
+quiet_answer completed.Stray = answer.Number refusal.Stray
+quiet_answer completed.Cut = answer.Number refusal.Cut
 quiet_answer (completed.Message s a b) = answer.Nothing
 quiet_answer completed.SysEx = answer.Nothing
 
-abbrev pub no_key : Key
-no_key = record { sounds = false; channel = 0; key = 0 }
-
 -- the channel and key of a note-on with a velocity above 0
-abbrev pub key_in : Message → Key
-key_in (message.NoteOn c k) = record { sounds = true; channel = c; key = k }
-key_in (message.NoteOff c k) = no_key
-key_in (message.Control c n v) = no_key
-key_in (message.Program c n) = no_key
-key_in (message.Bend c msb lsb) = no_key
-key_in message.Other = no_key
+abbrev pub key_in : Message → Option Key
+key_in (message.NoteOn c k) = Some (record { channel = c; key = k })
+key_in (message.NoteOff c k) = None
+key_in (message.Control c n v) = None
+key_in (message.Program c n) = None
+key_in (message.Bend c msb lsb) = None
+key_in message.Other = None
 
-abbrev pub key_of : Completed → Key
-key_of completed.Nothing = no_key
-key_of completed.Stray = no_key
-key_of completed.Cut = no_key
+abbrev pub key_of : Completed → Option Key
+key_of completed.Nothing = None
+key_of completed.Stray = None
+key_of completed.Cut = None
 key_of (completed.Message s a b) = key_in (decode s a b)
-key_of completed.SysEx = no_key
+key_of completed.SysEx = None
