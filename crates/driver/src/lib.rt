@@ -12,8 +12,10 @@ ghost use Rattle.driver.specs.Heard.{note_heard, acted, heard_by};
 use device::Device;
 use playing::Answer;
 use splitter::{Completed, Parser};
+use touched::Key;
 
 // A note-on with a velocity above 0 touches the generators alone: the rest of the record stays where it is.
+#[tactic(auto, unfolding(crate::specs::Heard::note_heard, playing::specs::Playing::play_note_on))]
 fn note(d: &mut Device, channel: u8, key: u8) -> Answer
     ensures { (result ≡ (note_heard d.old channel key).answer)
         × (d.new ≡ (note_heard d.old channel key).device) }
@@ -24,6 +26,7 @@ fn note(d: &mut Device, channel: u8, key: u8) -> Answer
 }
 
 // What else a byte completed, where it found parser p: the parser in the record is already the next one.
+#[tactic(auto, unfolding(crate::specs::Heard::acted))]
 fn act(d: &mut Device, p: Parser, c: Completed) -> Answer
     ensures { (result ≡ (acted d.old p c).answer) × (d.new ≡ (acted d.old p c).device) }
 {
@@ -33,20 +36,21 @@ fn act(d: &mut Device, p: Parser, c: Completed) -> Answer
 }
 
 // A byte b that completed c, which is not quiet.
+#[tactic(auto, unfolding(crate::specs::Heard::heard_by, crate::specs::Heard::note_heard, crate::specs::Heard::acted))]
 fn hear(d: &mut Device, b: u8, c: Completed) -> Answer
     ensures { (result ≡ (heard_by d.old b c).answer)
         × (d.new ≡ (heard_by d.old b c).device) }
 {
     let p = d.parser;
     d.parser = p.after(b);
-    let k = touched::key_of(c);
-    if k.sounds {
-        return note(d, k.channel, k.key);
+    match touched::key_of(c) {
+        Some(Key { channel, key }) => note(d, channel, key),
+        None => act(d, p, c),
     }
-    act(d, p, c)
 }
 
 // A MIDI byte. Most complete nothing and touch the parser alone.
+#[tactic(auto, unfolding(events::specs::Events::taken, device::specs::Device::byte_taken, crate::specs::Heard::heard_by))]
 pub fn byte(d: &mut Device, b: u8) -> Answer
     ensures { (result ≡ (taken d.old (Byte b)).answer)
         × (d.new ≡ (taken d.old (Byte b)).device) }

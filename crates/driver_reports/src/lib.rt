@@ -10,6 +10,7 @@ use device::Device;
 use playing::Answer;
 
 // Generator g has rung out (R7.1).
+#[tactic(auto, unfolding(events::specs::Events::taken, events::specs::Events::report_taken))]
 pub fn report(d: &mut Device, g: u8) -> Answer
     ensures { (result ≡ (taken d.old (Report g)).answer)
         × (d.new ≡ (taken d.old (Report g)).device) }

@@ -1,5 +1,4 @@
--- `driver::byte` meets its contract: a byte that is quiet changes the parser alone, and any other is heard by `hear`,
--- which says the same of the record as the call by value.
+-- `driver::byte` meets its contract: a byte that is quiet changes the parser alone, as the call by value does.
 -- Assumes nothing.
 use Rattle.std.proofs.Common.{◌≡◌, ◌∙◌, refl, sym, true, ℕ}
 use Rattle.splitter.specs.declared.Parser.{Parser}
@@ -14,14 +13,7 @@ use Rattle.device.specs.Device as definition
 use Rattle.events.specs.declared.Event.TheVariants.{Byte}
 use Rattle.events.specs.Events.{taken}
 use Rattle.touched.specs.Touched.{is_quiet, quiet_answer}
-use Rattle.driver.specs.Heard.{heard_by}
-use Rattle.lent.proofs.Lent.{device_of_lem}
 use Rattle.driver.proofs.byte.Goals as goal
-
--- ---- the definition, in the two ways that the code takes
-
-abbrev Taken : Device → ℕ → Answer → Device → Type 0
-Taken h n a d = (a ≡ (taken h (Byte n)).answer) × (d ≡ (taken h (Byte n)).device)
 
 heard_quietly : (i : Instrument) (p : Parser) (k : Completed)
     → is_quiet k ≡ true → definition.heard i p k ≡ replied (quiet_answer k) i
@@ -32,25 +24,16 @@ heard_quietly i p Cut q = refl
 heard_quietly i p (Message s a b) q = cc
 heard_quietly i p SysEx q = cc
 
-module _ (h : Device) (n : ℕ) (k : Completed) (is_completed : k ≡ (splitting.split h.parser n).completed) where
-  quiet_way : (p : Parser) (a : Answer) → p ≡ (splitting.split h.parser n).parser
-      → is_quiet k ≡ true → a ≡ quiet_answer k → Taken h n a (device_of_lem p h.instrument)
-  unfolding taken definition.byte_taken
-  quiet_way p a is_parser q e =
-      let r = sym (heard_quietly h.instrument h.parser k q) in
-      (simp (e, ← is_completed, ← r), simp (is_parser, ← is_completed, ← r))
-
-  loud_way : (a : Answer) (d : Device) → (a ≡ (heard_by h n k).answer) × (d ≡ (heard_by h n k).device) → Taken h n a d
-  unfolding taken definition.byte_taken heard_by
-  loud_way a d e = rw (← is_completed) e
-
--- ---- the goals
+quiet_way : (h : Device) (n : ℕ) (k : Completed) (p : Parser) (a : Answer)
+    → k ≡ (splitting.split h.parser n).completed → p ≡ (splitting.split h.parser n).parser
+    → is_quiet k ≡ true → a ≡ quiet_answer k
+    → (a ≡ (taken h (Byte n)).answer) × (record { parser = p; instrument = h.instrument } ≡ (taken h (Byte n)).device)
+unfolding taken definition.byte_taken
+quiet_way h n k p a is_completed is_parser q e =
+    let r = sym (heard_quietly h.instrument h.parser k q) in
+    (simp (e, ← is_completed, ← r), simp (is_parser, ← is_completed, ← r))
 
 pub returns-then-is_quiet : goal.returns-then-is_quiet
 returns-then-is_quiet c =
-    quiet_way c.args.d.now c.args.b c.completes-c.result c.completes-c.ensures c.after-d.result c.quiet_answer.result
+    quiet_way c.args.d.now c.args.b c.completes-c.result c.after-d.result c.quiet_answer.result c.completes-c.ensures
     c.after-d.ensures (sym c.is_quiet.ensures ∙ c.if-is_quiet.true) c.quiet_answer.ensures
-
-pub returns : goal.returns
-returns c =
-    loud_way c.args.d.now c.args.b c.completes-c.result c.completes-c.ensures c.hear.result c.hear.new.d c.hear.ensures

@@ -1,2 +1,0 @@
--- What the walks over the lent record share.
-pub mod Lent
