@@ -9,7 +9,7 @@ ghost use Rattle.sysex.specs.SysEx.{starts_with, kind_of};
 use splitter::Parser;
 
 // What an ended SysEx is.
-#[derive(Clone, Copy)]
+#[derive(Clone, Copy, PartialEq, Eq)]
 pub enum Kind {
     // A MIP message for us, well formed or not.
     Mip,
@@ -24,11 +24,10 @@ pub fn kind_of(parser: Parser, id: u8) -> Kind
     ensures { result ≡ kind_of id (body parser) }
 {
     let n = parser.count;
-    let l = parser.bytes;
-    if (4 <= n) & starts_with(id, 0x7F, 0x0B, 0x01, l) {
+    if 4 <= n && starts_with(id, 0x7F, 0x0B, 0x01, parser.bytes) {
         return Kind::Mip;
     }
-    if (n == 4) & starts_with(id, 0x7E, 0x09, 0x01, l) {
+    if n == 4 && starts_with(id, 0x7E, 0x09, 0x01, parser.bytes) {
         return Kind::SystemOn;
     }
     Kind::Other
@@ -38,6 +37,5 @@ pub fn kind_of(parser: Parser, id: u8) -> Kind
 fn starts_with(id: u8, a: u8, b: u8, c: u8, l: [u8; 37]) -> bool
     ensures { result ≡ starts_with id a b c l }
 {
-    let d = l[1];
-    (l[0] == a) & (((d == 0x7F) | (d == id)) & ((l[2] == b) & (l[3] == c)))
+    l[0] == a && (l[1] == 0x7F || l[1] == id) && l[2] == b && l[3] == c
 }
