@@ -41,12 +41,11 @@ fn how_many(state: [u8; 64], channel: [u8; 64], want: Want) -> u8
     ensures { (result ≡ total (λ g. bit (wanted want (generator (get_or state g 0) (get_or channel g 0) 0))) 64)
         × (result ≤ 64) }
 {
-    let wanted = state
-        .iter()
-        .zip(channel.iter())
-        .filter(|(s, c)| is_wanted(want, **s, **c))
-        .count();
-    wanted as u8
+    let mut n: u8 = 0;
+    for i in 0..64 {
+        n += u8::from(is_wanted(want, state[i], channel[i]));
+    }
+    n
 }
 
 // A mark for each generator that is wanted.
