@@ -24,10 +24,10 @@ pub fn kind_of(parser: Parser, id: u8) -> Kind
     ensures { result ≡ kind_of id (body parser) }
 {
     let n = parser.count;
-    if 4 <= n && starts_with(id, 0x7F, 0x0B, 0x01, parser.bytes) {
+    if (4 <= n) & starts_with(id, 0x7F, 0x0B, 0x01, parser.bytes) {
         return Kind::Mip;
     }
-    if n == 4 && starts_with(id, 0x7E, 0x09, 0x01, parser.bytes) {
+    if (n == 4) & starts_with(id, 0x7E, 0x09, 0x01, parser.bytes) {
         return Kind::SystemOn;
     }
     Kind::Other
