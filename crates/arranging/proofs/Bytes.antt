@@ -1,6 +1,7 @@
 -- What the loop over the message's bytes cites: its length and each byte by its place; and a line by what the code
 -- reads of it.
 -- Assumes nothing.
+use Rattle.std.specs.Prelude.{Some, None}
 use mathlib.Core.Path.{◌≡◌, refl, sym, ap, ◌∙◌}
 use mathlib.Core.Bool.{Bool, true, false}
 use mathlib.Core.List.{List, [], ◌∷◌, ◌++◌}
@@ -11,11 +12,10 @@ use borrow.Author.Tests.{eqb-true, eqb-false}
 use lib.Dec.{eqb}
 use lib.ListN.{length, get_or, length-append, get_or-append}
 use lib.Seq.{get_or-append-add, get_or_at}
+use Rattle.loops.proofs.Tests.{impossible}
 use Rattle.table.specs.declared.Entry.{Entry}
 use Rattle.events.specs.declared.Event.{Event}
 use Rattle.event_line.specs.Log.{meaning_of}
-use Rattle.arranging.specs.declared.Song.{Song}
-use Rattle.arranging.specs.Run.{meaning_played, played_by}
 use Rattle.arranging.specs.Arranging.{listing, pair_bytes, mip_message}
 
 -- ---- how many
@@ -104,6 +104,10 @@ module _ (order most : List ℕ) (n : length order ≡ 16) (m : length most ≡ 
 
 -- ---- a line by what the code reads
 
-pub by_meaning : (s : Song) (o : Option Event) → played_by s (meaning_of o) ≡ meaning_played s o
-by_meaning s none = refl
-by_meaning s (some e) = refl
+pub said_event : (o : Option Event) (e : Event) → Some e ≡ meaning_of o → o ≡ some e
+said_event none e h = impossible (cc)
+said_event (some f) e h = let q : f ≡ e = cc in rw q
+
+pub said_nothing : (o : Option Event) → None ≡ meaning_of o → o ≡ none
+said_nothing none h = refl
+said_nothing (some f) h = impossible (cc)

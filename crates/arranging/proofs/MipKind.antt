@@ -19,18 +19,10 @@ module _ (id : ℕ) (l : List ℕ) where
       go false true h = impossible (cc)
       go false false h = impossible (cc)
 
-  pub mip_no_on : kind_of id l ≡ SystemOn → is_mip id l ≡ false
+  pub mip_no : (kind_of id l ≡ Mip → ⊥) → is_mip id l ≡ false
   unfolding kind_of
-  mip_no_on h = go (is_mip id l) h
+  mip_no h = go (is_mip id l) h
     where
-      go : (a : Bool) → (if a then Mip else if is_system_on id l then SystemOn else Other) ≡ SystemOn → a ≡ false
-      go true h = impossible (cc)
-      go false h = refl
-
-  pub mip_no_other : kind_of id l ≡ Other → is_mip id l ≡ false
-  unfolding kind_of
-  mip_no_other h = go (is_mip id l) h
-    where
-      go : (a : Bool) → (if a then Mip else if is_system_on id l then SystemOn else Other) ≡ Other → a ≡ false
-      go true h = impossible (cc)
+      go : (a : Bool) → ((if a then Mip else if is_system_on id l then SystemOn else Other) ≡ Mip → ⊥) → a ≡ false
+      go true h = absurd (h refl)
       go false h = refl

@@ -2,7 +2,7 @@
 -- the first seven bytes of the line that is not ended. So its end is the message of the whole log, however the log was
 -- cut.
 -- Assumes nothing.
-use Rattle.std.specs.Prelude.{if◌then◌else◌}
+use Rattle.std.specs.Prelude.{Some, None, if◌then◌else◌}
 use mathlib.Core.Path.{◌≡◌, refl, sym, ap, ◌∙◌}
 use mathlib.Core.Bool.{Bool, true, false, ◌||◌}
 use mathlib.Core.List.{List, [], ◌∷◌, ◌++◌}
@@ -27,7 +27,7 @@ use Rattle.event_line.proofs.Lines.{event_seven, event_unended, has_end}
 use Rattle.arranging.specs.declared.Written.{Written}
 use Rattle.arranging.specs.declared.Song.{Song}
 use Rattle.arranging.specs.declared.Run.{Run}
-use Rattle.order.specs.Order.{is_order, no_order, order_of}
+use Rattle.order.specs.Order.{is_order, order_of}
 use Rattle.joint.specs.Joint.{larger, raised}
 use Rattle.arranging.specs.Arranging.{fresh, spoils, at_line, fault, behind_line, looked_at, after_line, records}
 use Rattle.arranging.specs.Arranging.{largest, joint, values, told, whole, refused, written_by, message}
@@ -58,10 +58,10 @@ module _ (bs : List ℕ) (i : ℕ) (h : i < length bs) (s : Song) (l : Line) whe
   unfolding byte_heard
   heard-line n m t p q = turn (run n m) (rw (eq-eqb (get_or bs i 0) 0x0A t, p, q))
 
-  pub heard_byte : (m : Line) → (get_or bs i 0 ≡ 0x0A → ⊥) → m ≡ put l (get_or bs i 0)
-      → heard (run s m) (drop (i + 1) bs) ≡ heard (run s l) (drop i bs)
+  pub heard_byte : (n : Song) (m : Line) → (get_or bs i 0 ≡ 0x0A → ⊥) → n ≡ s → m ≡ put l (get_or bs i 0)
+      → heard (run n m) (drop (i + 1) bs) ≡ heard (run s l) (drop i bs)
   unfolding byte_heard
-  heard_byte m t q = turn (run s m) (rw (ne_eqb (get_or bs i 0) 0x0A t, q))
+  heard_byte n m t p q = turn (run n m) (rw (ne_eqb (get_or bs i 0) 0x0A t, p, q))
 
 pub heard_end : (bs : List ℕ) (i : ℕ) (r : Run) → length bs ≤ i → heard r (drop i bs) ≡ r
 unfolding heard
@@ -296,7 +296,7 @@ unfolding begun_by message order_of
 parts order log = go (is_order order)
   where
     go : (t : Bool)
-        → finished (heard (begun_by (if t then record { whole = true; channels = order } else no_order)) log)
+        → finished (heard (begun_by (if t then Some order else None)) log)
         ≡ (if t then written_by order (records fresh (lines_of log))
         (told (looked_at fresh (lines_of log))) (fault fresh (lines_of log)) else refused 16 0)
     go true =

@@ -1,7 +1,7 @@
 -- An event that is answered *none* moves no generator: of what a byte completes, only nothing and a SysEx that is not
 -- for us answer none, and a report never does.
 -- Assumes nothing.
-use Rattle.std.specs.Prelude.{if◌then◌else◌}
+use Rattle.std.specs.Prelude.{Result, Ok, Err, if◌then◌else◌}
 use mathlib.Core.Path.{◌≡◌, refl, ◌∙◌}
 use mathlib.Core.Bool.{Bool, true, false, ◌&&◌}
 use mathlib.Core.List.{List}
@@ -11,6 +11,8 @@ use Rattle.loops.specs.Cases.{bit}
 use Rattle.loops.proofs.Padded as padded
 use Rattle.loops.proofs.Totals.{total_zero, total-same}
 use Rattle.loops.proofs.Tests.{impossible}
+use Rattle.refusals.specs.declared.Refusal.{Refusal}
+use Rattle.refusals.specs.declared.Refusal.TheVariants as refusal
 use Rattle.splitter.specs.declared.Parser.{Parser}
 use Rattle.splitter.specs.declared.Completed.{Completed}
 use Rattle.splitter.specs.declared.Completed.TheVariants as completed
@@ -22,12 +24,9 @@ use Rattle.table.specs.declared.Table.{Table}
 use Rattle.sysex.specs.declared.Kind.{Kind}
 use Rattle.sysex.specs.declared.Kind.TheVariants.{Mip, SystemOn, Other}
 use Rattle.sysex.specs.SysEx.{kind_of}
-use Rattle.mip.specs.declared.Verdict.{Verdict}
-use Rattle.mip.specs.declared.Verdict.TheVariants.{Accepted, Refused}
 use Rattle.mip.specs.Mip.{judged}
 use Rattle.generators.specs.Generators.{at, is_busy, is_idle, silent}
 use Rattle.allocation.specs.declared.Taken.{Taken}
-use Rattle.allocation.specs.declared.Taken.TheVariants as took
 use Rattle.allocation.specs.Allocation.{note_on}
 use Rattle.instrument.specs.declared.Instrument.{Instrument}
 use Rattle.instrument.specs.Instrument as instrument
@@ -55,24 +54,24 @@ unfolding played play_note_on
 played-answers i (message.NoteOn c k) h =
     go (note_on i.generators i.table i.polyphony (instrument.is_rhythm i c) c k).taken h
   where
-    go : {A : Type 0} (t : Taken) → is_quiet (reply_of t c k) ≡ true → A
-    go (took.Took g w) h = no h
-    go (took.Refused n) h = no h
+    go : {A : Type 0} (t : Result Taken Refusal) → is_quiet (reply_of t c k) ≡ true → A
+    go (Ok t) h = no h
+    go (Err r) h = no h
 played-answers i (message.NoteOff c k) h = no h
 played-answers i (message.Control c n v) h = no h
 played-answers i (message.Program c n) h = no h
 played-answers i (message.Bend c msb lsb) h = no h
 played-answers i message.Other h = no h
 
-judged-answers : (i : Instrument) (v : Verdict) (t : Table)
-    → is_quiet (judged_reply i v t).answer ≡ true → (judged_reply i v t).instrument ≡ i
-judged-answers i Accepted t h = no h
-judged-answers i (Refused n) t h = no h
+judged-answers : (i : Instrument) (r : Result Table Refusal)
+    → is_quiet (judged_reply i r).answer ≡ true → (judged_reply i r).instrument ≡ i
+judged-answers i (Ok t) h = no h
+judged-answers i (Err r) h = no h
 
 kind-quiet : (i : Instrument) (l : List ℕ) (k : Kind)
     → is_quiet (kind_reply i l k).answer ≡ true → (kind_reply i l k).instrument ≡ i
 unfolding mip_taken
-kind-quiet i l Mip h = judged-answers i (judged _).verdict (judged _).table h
+kind-quiet i l Mip h = judged-answers i (judged _) h
 kind-quiet i l SystemOn h = no h
 kind-quiet i l Other h = refl
 
@@ -90,7 +89,7 @@ unfolding reported
 report_answers i g h = go (leb i.polyphony g) (is_idle (at i.generators g)) h
   where
     go : {A : Type 0} (a b : Bool)
-        → is_quiet (if a then replied (answer.Number 12) i else if b then replied (answer.Number 13) i
+        → is_quiet (if a then replied (answer.Number refusal.NoGenerator) i else if b then replied (answer.Number refusal.IdleGenerator) i
         else replied answer.Done (instrument.with_generators i (silenced (One g) i.generators))).answer ≡ true → A
     go true b h = no h
     go false true h = no h

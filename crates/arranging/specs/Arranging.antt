@@ -4,6 +4,7 @@ use Rattle.std.specs.Prelude.{ℕ, ◌+◌, ◌-◌, Bool, true, false, ◌&&◌
 use Rattle.std.proofs.Math.Option.{Option, some, none}
 use Rattle.loops.specs.Cases.{at_most}
 use Rattle.loops.specs.Passes.{up_to}
+use Rattle.refusals.specs.Refusals.{number}
 use Rattle.splitter.specs.declared.Completed.{Completed}
 use Rattle.splitter.specs.declared.Completed.TheVariants as completed
 use Rattle.splitter.specs.Split.{body, split}
@@ -46,8 +47,8 @@ unfoldable pub loses_note : Answer → Bool
 loses_note answer.Nothing = false
 loses_note answer.Done = false
 loses_note (answer.Note c k g w) = is_stolen w
-loses_note (answer.NoNote n c k) = eqb n 11
-loses_note (answer.Number n) = eqb n 11
+loses_note (answer.NoNote r c k) = eqb (number r) 11
+loses_note (answer.Number r) = eqb (number r) 11
 
 -- R8.17: number 17 falls at the line of this event; R14.2: any other answer is passed over
 unfoldable pub spoils : Device → Event → Bool

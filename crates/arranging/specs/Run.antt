@@ -2,6 +2,8 @@
 -- to `message` of the whole log is proved in proofs/Parts.antt.
 -- Assumes nothing.
 use Rattle.std.specs.Prelude.{ℕ, ◌+◌, Bool, true, false, List, [], ◌∷◌, ◌++◌, eqb, replicate, if◌then◌else◌}
+use Rattle.std.specs.Prelude as std
+use Rattle.std.specs.Prelude.{Some, None}
 use Rattle.std.proofs.Math.Option.{Option, some, none}
 use Rattle.playing.specs.declared.Answer.{Answer}
 use Rattle.playing.specs.declared.Answer.TheVariants as answer
@@ -9,10 +11,7 @@ use Rattle.device.specs.declared.Device.{Device}
 use Rattle.events.specs.declared.Event.{Event}
 use Rattle.events.specs.Events.{taken}
 use Rattle.event_line.specs.declared.Line.{Line}
-use Rattle.event_line.specs.declared.Meaning.{Meaning}
-use Rattle.event_line.specs.declared.Meaning.TheVariants.{Says, Other}
 use Rattle.event_line.specs.Log.{event_of, blank, put, text_of}
-use Rattle.order.specs.declared.Order.{Order}
 use Rattle.order.specs.Order.{order_of}
 use Rattle.joint.specs.Joint.{raised}
 use Rattle.arranging.specs.declared.Song.{Song}
@@ -36,8 +35,8 @@ abbrev pub is_quiet : Answer → Bool
 is_quiet answer.Nothing = true
 is_quiet answer.Done = false
 is_quiet (answer.Note c k g w) = false
-is_quiet (answer.NoNote n c k) = false
-is_quiet (answer.Number n) = false
+is_quiet (answer.NoNote r c k) = false
+is_quiet (answer.Number r) = false
 
 unfoldable pub event_played : Song → Event → Song
 event_played s e =
@@ -50,11 +49,6 @@ event_played s e =
 abbrev pub meaning_played : Song → Option Event → Song
 meaning_played s none = stopped s 15
 meaning_played s (some e) = event_played s e
-
--- the same, by what the code reads
-abbrev pub played_by : Song → Meaning → Song
-played_by s (Says e) = event_played s e
-played_by s Other = stopped s 15
 
 unfoldable pub line_played : Song → List ℕ → Song
 line_played s l = if eqb s.number 0 then meaning_played s (event_of l) else s
@@ -79,9 +73,14 @@ abbrev pub joined : List (List ℕ) → List ℕ
 joined [] = []
 joined (p ∷ ps) = p ++ joined ps
 
+-- a song in which no line was looked at, with the number that has fallen
+abbrev pub song_begun : List ℕ → ℕ → Run
+song_begun order number = run (song fresh order (replicate 16 0) 0 number) blank
+
 -- R18.5: before the first part: the order is looked at, and its number has fallen or not
-unfoldable pub begun_by : Order → Run
-begun_by o = run (song fresh o.channels (replicate 16 0) 0 (if o.whole then 0 else 16)) blank
+unfoldable pub begun_by : std.Option (List ℕ) → Run
+begun_by (Some order) = song_begun order 0
+begun_by None = song_begun (replicate 16 0) 16
 
 abbrev pub begun : List ℕ → Run
 begun order = begun_by (order_of order)

@@ -6,19 +6,21 @@
 ghost use Rattle.std.specs.Prelude.{◌≡◌, ◌&&◌, not, ◌<◌, eqb, get_or};
 ghost use Rattle.splitter.specs.Split.{body, split};
 ghost use Rattle.sysex.specs.SysEx.{is_mip};
+ghost use Rattle.refusals.specs.Refusals.{number};
 ghost use Rattle.allocation.specs.Allocation.{is_stolen};
 ghost use Rattle.event_line.specs.Log.{text_of};
 ghost use Rattle.arranging.specs.Arranging.{is_sys_ex, ends_mip, loses_note, listing, mip_message, refused, message};
-ghost use Rattle.arranging.specs.Run.{counted, is_quiet, stopped, event_played, played_by};
-ghost use Rattle.arranging.specs.Run.{line_played, heard, begun_by, begun, ended_by, finished};
+ghost use Rattle.arranging.specs.Run.{counted, is_quiet, stopped, event_played};
+ghost use Rattle.arranging.specs.Run.{line_played, heard, song_begun, begun, ended_by, finished};
 
 use allocation::Was;
-use device::Device;
-use event_line::{Line, Meaning};
+use device::{Device, Output};
+use event_line::Line;
 use events::Event;
-use order::Order;
 use playing::Answer;
+use refusals::Refusal;
 use splitter::{Completed, Parser};
+use std::array;
 use sysex::Kind;
 
 // The message, with number 0; or 38 zeros beside R8.15, R8.16 or R8.17.
@@ -58,43 +60,28 @@ pub struct Run {
 fn is_sysex(c: Completed) -> bool
     ensures { result ≡ is_sys_ex c }
 {
-    match c {
-        Completed::Nothing => false,
-        Completed::Stray => false,
-        Completed::Cut => false,
-        Completed::Message(_, _, _) => false,
-        Completed::SysEx => true,
-    }
+    matches!(c, Completed::SysEx)
 }
 
 // Whether the parser holds a MIP message that is for everybody, 7F, or for own ID 0.
 fn is_mip(p: Parser) -> bool
     ensures { result ≡ is_mip 0 (body p) }
 {
-    let k = sysex::kind_of(p, 0);
-    match k {
-        Kind::Mip => true,
-        Kind::SystemOn => false,
-        Kind::Other => false,
-    }
+    matches!(sysex::kind_of(p, 0), Kind::Mip)
 }
 
 // Whether the byte ends one: it is the parser before the byte that holds it.
 fn ends_mip_at(p: Parser, b: u8) -> bool
     ensures { result ≡ (is_sys_ex (split p b).completed && is_mip 0 (body p)) }
 {
-    if is_sysex(p.completes(b)) {
-        return is_mip(p);
-    }
-    false
+    is_sysex(p.completes(b)) && is_mip(p)
 }
 
 fn ends_mip(d: Device, e: Event) -> bool
     ensures { result ≡ ends_mip d e }
 {
-    let p = d.parser;
     match e {
-        Event::Byte(b) => ends_mip_at(p, b),
+        Event::Byte(b) => ends_mip_at(d.parser, b),
         Event::Report(_) => false,
     }
 }
@@ -102,23 +89,25 @@ fn ends_mip(d: Device, e: Event) -> bool
 fn is_theft(w: Was) -> bool
     ensures { result ≡ is_stolen w }
 {
-    match w {
-        Was::Idle => false,
-        Was::Release => false,
-        Was::Stolen => true,
-    }
+    matches!(w, Was::Stolen)
 }
 
-// Whether a note is lost: an older one by theft, or the new one by number 11.
+fn is_nothing_to_steal(r: Refusal) -> bool
+    ensures { result ≡ eqb (number r) 11 }
+{
+    matches!(r, Refusal::NothingToSteal)
+}
+
+// Whether a note is lost: an older one by theft, or the new one since none is to be stolen.
+#[tactic(auto, unfolding(crate::specs::Arranging::loses_note))]
 fn loses_note(a: Answer) -> bool
     ensures { result ≡ loses_note a }
 {
     match a {
-        Answer::Nothing => false,
-        Answer::Done => false,
         Answer::Note(_, _, _, w) => is_theft(w),
-        Answer::NoNote(n, _, _) => n == 11,
-        Answer::Number(n) => n == 11,
+        Answer::NoNote(r, _, _) => is_nothing_to_steal(r),
+        Answer::Number(r) => is_nothing_to_steal(r),
+        _ => false,
     }
 }
 
@@ -126,23 +115,14 @@ fn loses_note(a: Answer) -> bool
 fn is_quiet(a: Answer) -> bool
     ensures { result ≡ is_quiet a }
 {
-    match a {
-        Answer::Nothing => true,
-        Answer::Done => false,
-        Answer::Note(_, _, _, _) => false,
-        Answer::NoNote(_, _, _) => false,
-        Answer::Number(_) => false,
-    }
+    matches!(a, Answer::Nothing)
 }
 
 // One line more, as it is told.
 fn one_more(lines: u64) -> u64
     ensures { result ≡ counted lines }
 {
-    if lines < u64::MAX {
-        return lines + 1;
-    }
-    lines
+    lines.saturating_add(1)
 }
 
 // Whether a number has fallen.
@@ -153,56 +133,41 @@ fn has_fallen(number: u8) -> bool
 }
 
 // A number falls: no line behind this one is looked at.
-fn stop(s: Song, number: u8) -> Song
-    ensures { result ≡ stopped s number }
+#[tactic(auto, unfolding(crate::specs::Run::stopped))]
+fn stop(s: Song, refusal: Refusal) -> Song
+    ensures { result ≡ stopped s (number refusal) }
 {
-    let mut t = s;
-    t.lines = one_more(s.lines);
-    t.number = number;
-    t
+    Song {
+        lines: one_more(s.lines),
+        number: refusal.number(),
+        ..s
+    }
 }
 
 fn play_event(s: Song, e: Event) -> Song
     ensures { result ≡ event_played s e }
 {
-    let d = s.device;
-    let o = events::apply(d, e);
-    let answer = o.answer;
-    if ends_mip(d, e) | loses_note(answer) {
-        return stop(s, 17);
+    let Output { answer, device } = events::apply(s.device, e);
+    if ends_mip(s.device, e) | loses_note(answer) {
+        return stop(s, Refusal::UnfitLog);
     }
-    let next = o.device;
-    let order = s.order;
-    let most = s.most;
     let lines = one_more(s.lines);
     // Most bytes complete nothing: they move no generator, and nothing is counted.
     if is_quiet(answer) {
         return Song {
-            device: next,
-            order: order,
-            most: most,
-            lines: lines,
+            device,
+            lines,
             number: 0,
+            ..s
         };
     }
-    let i = next.instrument;
-    let g = i.generators;
-    let after = joint::raise(order, most, g);
+    let most = joint::raise(s.order, s.most, device.instrument.generators);
     Song {
-        device: next,
-        order: order,
-        most: after,
-        lines: lines,
+        device,
+        most,
+        lines,
         number: 0,
-    }
-}
-
-fn play_meaning(s: Song, m: Meaning) -> Song
-    ensures { result ≡ played_by s m }
-{
-    match m {
-        Meaning::Says(e) => play_event(s, e),
-        Meaning::Other => stop(s, 15),
+        ..s
     }
 }
 
@@ -213,7 +178,10 @@ fn play_line(s: Song, l: Line) -> Song
     if has_fallen(s.number) {
         return s;
     }
-    play_meaning(s, event_line::read(l))
+    match event_line::read(l) {
+        Some(e) => play_event(s, e),
+        None => stop(s, Refusal::WrongLine),
+    }
 }
 
 // ---- the message
@@ -233,7 +201,7 @@ fn byte_at(order: [u8; 16], most: [u8; 16], i: usize) -> u8
     }
     let k = (i - 5) / 2;
     if (i - 5) % 2 == 0 {
-        return loops::less(order[k], 1);
+        return order[k].saturating_sub(1);
     }
     most[k]
 }
@@ -242,13 +210,7 @@ fn byte_at(order: [u8; 16], most: [u8; 16], i: usize) -> u8
 fn compose(order: [u8; 16], most: [u8; 16]) -> [u8; 38]
     ensures { result ≡ mip_message (listing order most) }
 {
-    let mut out = [0u8; 38];
-    let mut i: usize = 0;
-    while i < 38 {
-        out[i] = byte_at(order, most, i);
-        i += 1;
-    }
-    out
+    array::from_fn(|i| byte_at(order, most, i))
 }
 
 // 38 zero bytes beside a number.
@@ -256,8 +218,8 @@ fn refuse(number: u8, line: u64) -> Written
     ensures { result ≡ refused number line }
 {
     Written {
-        line: line,
-        number: number,
+        line,
+        number,
         bytes: [0; 38],
     }
 }
@@ -267,75 +229,67 @@ fn end_song(s: Song, n: u8) -> Written
     ensures { result ≡ ended_by s n }
 {
     if n != 0 {
-        return refuse(15, one_more(s.lines));
+        return refuse(Refusal::WrongLine.number(), one_more(s.lines));
     }
-    let order = s.order;
-    let most = s.most;
     Written {
         line: s.lines,
         number: 0,
-        bytes: compose(order, most),
+        bytes: compose(s.order, s.most),
     }
 }
 
 // ---- the operation in parts
 
-fn begin_with(o: Order) -> Run
-    ensures { result ≡ begun_by o }
+// The song of an order and of the number that has fallen, or 0.
+fn begin_song(order: [u8; 16], fallen: u8) -> Run
+    ensures { result ≡ song_begun order fallen }
 {
-    let start = device::start(64, 0);
-    let d = start.device;
-    let order = o.channels;
-    let s = Song {
-        device: d,
-        order: order,
-        most: [0; 16],
-        lines: 0,
-        number: loops::if_else(o.whole, 0, 16),
-    };
-    let l = Line::new();
-    Run { song: s, line: l }
+    Run {
+        song: Song {
+            device: device::start(64, 0).device,
+            order,
+            most: [0; 16],
+            lines: 0,
+            number: fallen,
+        },
+        line: Line::new(),
+    }
 }
 
 // Before the first part: the order is looked at.
 pub fn begin(order: &[u8]) -> Run
     ensures { result ≡ begun order.now }
 {
-    begin_with(order::read(order))
+    match order::read(order) {
+        Some(order) => begin_song(order, 0),
+        None => begin_song([0; 16], Refusal::WrongOrder.number()),
+    }
 }
 
 // One part more.
 pub fn take(r: Run, part: &[u8]) -> Run
     ensures { result ≡ heard r part.now }
 {
-    let mut s = r.song;
-    let mut l = r.line;
-    let mut i: usize = 0;
-    while i < part.len() {
-        let b = part[i];
-        i += 1;
-        let line = l.push(b);
-        if b == 10 {
-            let next = play_line(s, line);
-            s = next;
-            l = Line::new();
-            continue;
+    let Run { mut song, mut line } = r;
+    for &b in part {
+        line = line.push(b);
+        if b == b'\n' {
+            song = play_line(song, line);
+            line = Line::new();
         }
-        l = line;
     }
-    Run { song: s, line: l }
+    Run { song, line }
 }
 
 // After the last part.
 pub fn end(r: Run) -> Written
     ensures { result ≡ finished r }
 {
-    let s = r.song;
-    let l = r.line;
-    if has_fallen(s.number) {
-        return refuse(s.number, s.lines);
+    let Run { song, line } = r;
+    if has_fallen(song.number) {
+        return refuse(song.number, song.lines);
     }
-    end_song(s, l.count)
+    end_song(song, line.count)
 }
 
 // The message of an order and a log.

@@ -25,7 +25,7 @@ returns-then-i-eq0 c =
     let a = s.args in
     let g = s.well_formed in
     let t : (a.i - 5) % 2 ≡ 0 = c.if-i-eq0.true in
-    c.less.ensures ∙ byte_channel a.order a.most g.0.1.0.1
+    c.saturating_sub.ensures ∙ byte_channel a.order a.most g.0.1.0.1
     g.1.0.1.0.1 a.i ((a.i - 5) / 2) (omega arith) (omega arith)
 
 pub returns : goal.returns

@@ -6,7 +6,7 @@ use Rattle.arranging.proofs.end_song.Goals as goal
 
 pub returns-then-n-ne0 : goal.returns-then-n-ne0
 unfolding ended_by
-returns-then-n-ne0 c = simp (ne_eqb _ _ c.if-n-ne0.true, c.refuse.ensures, c.one_more.ensures)
+returns-then-n-ne0 c = simp (ne_eqb _ _ c.if-n-ne0.true, c.refuse.ensures, c.number.ensures, c.one_more.ensures)
 
 pub returns : goal.returns
 unfolding ended_by

@@ -14,7 +14,7 @@ returns-then-ends_mip-loses_note c =
       rw (
         a.ends_mip.ensures,
         a.loses_note.ensures,
-        a.apply-o.ensures,
+        a.apply-answer.ensures,
       ) at a.if-ends_mip-loses_note.true,
       c.stop.ensures,
     )
@@ -23,7 +23,7 @@ pub returns-then-is_quiet : goal.returns-then-is_quiet
 unfolding event_played spoils
 returns-then-is_quiet c =
     let a = c in
-    let e = a.apply-o.ensures in
+    let e = a.apply-answer.ensures in
     simp (
       rw (a.ends_mip.ensures, a.loses_note.ensures, e) at a.if-ends_mip-loses_note.false,
       rw e at (sym c.is_quiet.ensures ∙ c.if-is_quiet.true),
@@ -36,11 +36,11 @@ unfolding event_played spoils
 returns c =
     let q = c in
     let a = q in
-    let e = a.apply-o.ensures in
+    let e = a.apply-answer.ensures in
     simp (
       rw (a.ends_mip.ensures, a.loses_note.ensures, e) at a.if-ends_mip-loses_note.false,
       rw e at (sym q.is_quiet.ensures ∙ q.if-is_quiet.false),
-      c.raise-after.ensures,
+      c.raise-most.ensures,
       q.one_more-lines.ensures,
       e,
     )
