@@ -10,13 +10,13 @@ use Rattle.device.specs.declared.Output.{Output}
 use Rattle.device.specs.Device.{output_of, heard}
 
 -- a note-on, which the parser has left behind
-unfoldable pub note_heard : Device → ℕ → ℕ → Output
+abbrev pub note_heard : Device → ℕ → ℕ → Output
 note_heard d c k = output_of d.parser (play_note_on d.instrument c k)
 
 -- anything that a byte completed where it found parser p
-unfoldable pub acted : Device → Parser → Completed → Output
+abbrev pub acted : Device → Parser → Completed → Output
 acted d p k = output_of d.parser (heard d.instrument p k)
 
 -- byte b, which completed k
-unfoldable pub heard_by : Device → ℕ → Completed → Output
+abbrev pub heard_by : Device → ℕ → Completed → Output
 heard_by d b k = output_of (split d.parser b).parser (heard d.instrument d.parser k)

@@ -15,7 +15,7 @@ use splitter::{Completed, Parser};
 use touched::Key;
 
 // A note-on with a velocity above 0 touches the generators alone: the rest of the record stays where it is.
-#[tactic(auto, unfolding(crate::specs::Heard::note_heard, playing::specs::Playing::play_note_on))]
+#[tactic(auto, unfolding(playing::specs::Playing::play_note_on))]
 fn note(d: &mut Device, channel: u8, key: u8) -> Answer
     ensures { (result ≡ (note_heard d.old channel key).answer)
         × (d.new ≡ (note_heard d.old channel key).device) }
@@ -26,7 +26,6 @@ fn note(d: &mut Device, channel: u8, key: u8) -> Answer
 }
 
 // What else a byte completed, where it found parser p: the parser in the record is already the next one.
-#[tactic(auto, unfolding(crate::specs::Heard::acted))]
 fn act(d: &mut Device, p: Parser, c: Completed) -> Answer
     ensures { (result ≡ (acted d.old p c).answer) × (d.new ≡ (acted d.old p c).device) }
 {
@@ -36,7 +35,6 @@ fn act(d: &mut Device, p: Parser, c: Completed) -> Answer
 }
 
 // A byte b that completed c, which is not quiet.
-#[tactic(auto, unfolding(crate::specs::Heard::heard_by, crate::specs::Heard::note_heard, crate::specs::Heard::acted))]
 fn hear(d: &mut Device, b: u8, c: Completed) -> Answer
     ensures { (result ≡ (heard_by d.old b c).answer)
         × (d.new ≡ (heard_by d.old b c).device) }
@@ -50,7 +48,7 @@ fn hear(d: &mut Device, b: u8, c: Completed) -> Answer
 }
 
 // A MIDI byte. Most complete nothing and touch the parser alone.
-#[tactic(auto, unfolding(events::specs::Events::taken, device::specs::Device::byte_taken, crate::specs::Heard::heard_by))]
+#[tactic(auto, unfolding(events::specs::Events::taken, device::specs::Device::byte_taken))]
 pub fn byte(d: &mut Device, b: u8) -> Answer
     ensures { (result ≡ (taken d.old (Byte b)).answer)
         × (d.new ≡ (taken d.old (Byte b)).device) }

@@ -43,7 +43,6 @@ note_way : (h : Device) (n : ℕ) (k : Completed) (y : Key) (p : Parser) (a : An
     → (a ≡ (note_heard (record { parser = p; instrument = h.instrument }) y.channel y.key).answer)
     × (d ≡ (note_heard (record { parser = p; instrument = h.instrument }) y.channel y.key).device)
     → (a ≡ (heard_by h n k).answer) × (d ≡ (heard_by h n k).device)
-unfolding note_heard heard_by
 note_way h n k y p a d is_parser q s = rw (heard_key h.instrument h.parser y k q, ← is_parser) s
 
 pub returns-in-Some : goal.returns-in-Some
