@@ -54,9 +54,9 @@ pub fn byte(d: &mut Device, b: u8) -> Answer
         × (d.new ≡ (taken d.old (Byte b)).device) }
 {
     let c = d.parser.completes(b);
-    if touched::is_quiet(c) {
+    if let Some(answer) = touched::quiet_answer(c) {
         d.parser = d.parser.after(b);
-        return touched::quiet_answer(c);
+        return answer;
     }
     hear(d, b, c)
 }
