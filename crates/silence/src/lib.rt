@@ -21,6 +21,7 @@ pub enum Leaving {
     Group(u8, u8),
 }
 
+#[tactic(auto, unfolding(crate::specs::Silence::leaves, crate::specs::Silence::is_among))]
 fn leaves(leaving: Leaving, g: u8, state: u8, channel: u8, key: u8) -> bool
     ensures { result ≡ leaves leaving g (generator state channel key) }
 {
@@ -30,7 +31,7 @@ fn leaves(leaving: Leaving, g: u8, state: u8, channel: u8, key: u8) -> bool
     match leaving {
         Leaving::One(h) => g == h,
         Leaving::Channel(c) => channel == c,
-        Leaving::Group(c, k) => (channel == c) & drums::excluded(k, key),
+        Leaving::Group(c, k) => (channel == c) && drums::excluded(k, key),
     }
 }
 
