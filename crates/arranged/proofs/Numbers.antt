@@ -2,7 +2,8 @@
 -- where its generator is not one of P; in a log P is 64 throughout, since no event changes it, and a line's generator
 -- is below 64.
 -- Assumes nothing.
-use Rattle.std.specs.Prelude.{if◌then◌else◌}
+use Rattle.std.specs.Prelude.{Some, None, Result, Ok, Err, if◌then◌else◌}
+use Rattle.std.specs.Prelude as std
 use mathlib.Core.Path.{◌≡◌, refl, sym, ◌∙◌}
 use mathlib.Core.Bool.{Bool, true, false, ◌||◌}
 use mathlib.Core.List.{List, [], ◌∷◌, ◌++◌}
@@ -15,6 +16,9 @@ use lib.ListN.{length, get_or}
 use Rattle.loops.specs.Cases.{differ}
 use Rattle.loops.proofs.Cases.{by_both}
 use Rattle.loops.proofs.Tests.{impossible}
+use Rattle.refusals.specs.declared.Refusal.{Refusal}
+use Rattle.refusals.specs.declared.Refusal.TheVariants as refusal
+use Rattle.refusals.specs.Refusals.{number}
 use Rattle.splitter.specs.declared.Parser.{Parser}
 use Rattle.splitter.specs.declared.Completed.{Completed}
 use Rattle.splitter.specs.declared.Completed.TheVariants as completed
@@ -29,23 +33,17 @@ use Rattle.shares.specs.Shares.{is_masked, share_of}
 use Rattle.sysex.specs.declared.Kind.{Kind}
 use Rattle.sysex.specs.declared.Kind.TheVariants.{Mip, SystemOn, Other}
 use Rattle.sysex.specs.SysEx.{kind_of}
-use Rattle.mip.specs.declared.Verdict.{Verdict}
-use Rattle.mip.specs.declared.Verdict.TheVariants.{Accepted, Refused}
-use Rattle.mip.specs.Mip.{pairs, faulty, judged_by, judged}
-use Rattle.mip.specs.Mip as judging
+use Rattle.mip.specs.Mip.{pairs, faulty, judged_by, judged_pairs, judged}
 use Rattle.generators.specs.declared.Generators.{Generators}
 use Rattle.generators.specs.Generators.{at, is_idle}
 use Rattle.releases.specs.declared.Change.TheVariants.{ReleaseChannel, NoteOff}
 use Rattle.releases.specs.Releases.{changed}
-use Rattle.candidates.specs.declared.Found.{Found}
-use Rattle.candidates.specs.declared.Found.TheVariants as found
 use Rattle.candidates.specs.declared.Want.TheVariants.{Releasing}
 use Rattle.candidates.specs.Candidates.{lowest_idle, oldest}
 use Rattle.stealing.specs.Stealing.{victim}
 use Rattle.allocation.specs.declared.Was.{Was}
 use Rattle.allocation.specs.declared.Was.TheVariants.{Idle, Release, Stolen}
 use Rattle.allocation.specs.declared.Taken.{Taken}
-use Rattle.allocation.specs.declared.Taken.TheVariants as took
 use Rattle.allocation.specs.Allocation.{cleared, or_else, choice, allocated, note_on}
 use Rattle.silence.specs.declared.Leaving.TheVariants.{One}
 use Rattle.silence.specs.Silence.{silenced}
@@ -96,11 +94,11 @@ played_p i message.Other = refl
 
 kind_p : (i : Instrument) (l : List ℕ) (k : Kind) → (kind_reply i l k).instrument.polyphony ≡ i.polyphony
 unfolding mip_taken new_table instrument.fresh
-kind_p i l Mip = go (judged _).verdict (judged _).table
+kind_p i l Mip = go (judged _)
   where
-    go : (v : Verdict) (t : Table) → (judged_reply i v t).instrument.polyphony ≡ i.polyphony
-    go Accepted t = refl
-    go (Refused n) t = refl
+    go : (r : Result Table Refusal) → (judged_reply i r).instrument.polyphony ≡ i.polyphony
+    go (Ok t) = refl
+    go (Err r) = refl
 kind_p i l SystemOn = refl
 kind_p i l Other = refl
 
@@ -118,8 +116,8 @@ polyphony_stays d (Byte b) = heard_p d.instrument d.parser (split d.parser b).co
 polyphony_stays d (Report g) = go (leb d.instrument.polyphony g) (is_idle (at d.instrument.generators g))
   where
     go : (a b : Bool)
-        → (if a then replied (answer.Number 12) d.instrument
-        else if b then replied (answer.Number 13) d.instrument
+        → (if a then replied (answer.Number refusal.NoGenerator) d.instrument
+        else if b then replied (answer.Number refusal.IdleGenerator) d.instrument
         else replied answer.Done (instrument.with_generators d.instrument
         (silenced (One g) d.instrument.generators))).instrument.polyphony
         ≡ d.instrument.polyphony
@@ -133,23 +131,23 @@ abbrev Few : Option ℕ → Type 0
 Few none = Unit {0}
 Few (some n) = n ≤ 11
 
-few_else : (f : Found) (w : Was) (t : Taken) (c k : ℕ)
+few_else : (f : std.Option ℕ) (w : Was) (t : Result Taken Refusal) (c k : ℕ)
     → Few (number_of (reply_of t c k)) → Few (number_of (reply_of (or_else f w t) c k))
-few_else (found.At g) w t c k h = tt
-few_else found.Nothing w t c k h = h
+few_else (Some g) w t c k h = tt
+few_else None w t c k h = h
 
 few_choice : (s : Generators) (t : Table) (p c d k : ℕ) → Few (number_of (reply_of (choice s t p c) d k))
 unfolding choice
 few_choice s t p c d k =
-    let theft : Taken = or_else (victim s t p c) Stolen (took.Refused 11) in
+    let theft : Result Taken Refusal = or_else (victim s t p c) Stolen (Err refusal.NothingToSteal) in
     few_else (lowest_idle s p) Idle (or_else (oldest Releasing s) Release theft) d k
     (few_else (oldest Releasing s) Release theft d k
-    (few_else (victim s t p c) Stolen (took.Refused 11) d k (omega arith)))
+    (few_else (victim s t p c) Stolen (Err refusal.NothingToSteal) d k (omega arith)))
 
-few_allocated : (s r : Generators) (c k : ℕ) (t : Taken) → Few (number_of (reply_of t c k))
+few_allocated : (s r : Generators) (c k : ℕ) (t : Result Taken Refusal) → Few (number_of (reply_of t c k))
     → Few (number_of (reply_of (allocated s r c k t).taken c k))
-few_allocated s r c k (took.Took g w) h = tt
-few_allocated s r c k (took.Refused n) h = h
+few_allocated s r c k (Ok t) h = tt
+few_allocated s r c k (Err e) h = h
 
 few_played : (i : Instrument) (m : Message) → Few (number_of (played i m).answer)
 unfolding played play_note_on note_on
@@ -157,7 +155,7 @@ few_played i (message.NoteOn c k) =
     go (cleared (instrument.is_rhythm i c) c k i.generators) (is_masked (share_of i.table i.polyphony c))
   where
     go : (s : Generators) (b : Bool)
-        → Few (number_of (reply_of (if b then record { taken = took.Refused 10; generators = i.generators }
+        → Few (number_of (reply_of (if b then record { taken = Err refusal.Masked; generators = i.generators }
         else allocated i.generators s c k (choice s i.table i.polyphony c)).taken c k))
     go s true = omega arith
     go s false = few_allocated i.generators s c k
@@ -168,42 +166,42 @@ few_played i (message.Program c n) = tt
 few_played i (message.Bend c msb lsb) = tt
 few_played i message.Other = tt
 
-few_faulty : (before : List Entry) (v : ℕ) (l : List Entry) → Few (faulty before v l)
+abbrev FewReasons : Option Refusal → Type 0
+FewReasons none = Unit {0}
+FewReasons (some r) = number r ≤ 11
+
+few_faulty : (before : List Entry) (v : ℕ) (l : List Entry) → FewReasons (faulty before v l)
 unfolding faulty
 few_faulty before v [] = tt
 few_faulty before v (e ∷ l) = go (ltb 16 e.channel) (listed e.channel before)
     (ltb e.value v) (few_faulty (before ++ (e ∷ [])) e.value l)
   where
-    go : (a b c : Bool) → Few (faulty (before ++ (e ∷ [])) e.value l)
-        → Few (if a then some 7 else if b then some 8 else if c then some 9
-        else faulty (before ++ (e ∷ [])) e.value l)
+    go : (a b c : Bool) → FewReasons (faulty (before ++ (e ∷ [])) e.value l)
+        → FewReasons (if a then some refusal.MipNoChannel else if b then some refusal.MipListedTwice
+        else if c then some refusal.MipFallingValue else faulty (before ++ (e ∷ [])) e.value l)
     go true b c ih = omega arith
     go false true c ih = omega arith
     go false false true ih = omega arith
     go false false false ih = ih
 
-few_judged : (l : List ℕ) → Few (judging.number_of (judged l).verdict)
+few_judged : (i : Instrument) (l : List ℕ) → Few (number_of (judged_reply i (judged l)).answer)
 unfolding judged
-few_judged l = go (ltb 32 (length l)) (eqb (length l) 0 || eqb (length l % 2) 1)
+few_judged i l = go (ltb 32 (length l)) (eqb (length l) 0 || eqb (length l % 2) 1)
   where
-    by : (o : Option ℕ) → Few o → Few (judging.number_of (judged_by (pairs l) o).verdict)
+    by : (o : Option Refusal) → FewReasons o → Few (number_of (judged_reply i (judged_by (pairs l) o)).answer)
     by none h = tt
-    by (some n) h = h
+    by (some r) h = h
 
     go : (a b : Bool)
-        → Few (judging.number_of
-        (if a then judging.refused 5 else if b then judging.refused 6 else judging.judged_pairs (pairs l)).verdict)
+        → Few (number_of (judged_reply i (if a then Err refusal.MipTooLong
+        else if b then Err refusal.MipOddLength else judged_pairs (pairs l))).answer)
     go true b = omega arith
     go false true = omega arith
     go false false = by (faulty [] 0 (pairs l)) (few_faulty [] 0 (pairs l))
 
 few_kind : (i : Instrument) (l : List ℕ) (k : Kind) → Few (number_of (kind_reply i l k).answer)
 unfolding mip_taken
-few_kind i l Mip = go (judged _).verdict (judged _).table (few_judged _)
-  where
-    go : (v : Verdict) (t : Table) → Few (judging.number_of v) → Few (number_of (judged_reply i v t).answer)
-    go Accepted t h = tt
-    go (Refused n) t h = h
+few_kind i l Mip = few_judged i _
 few_kind i l SystemOn = tt
 few_kind i l Other = tt
 
@@ -228,7 +226,7 @@ few_taken d (Byte b) n p k h q = few_some _ n (few_heard d.instrument d.parser (
 few_taken d (Report g) n p k h q =
     go (is_idle (at d.instrument.generators g)) (rw (lt-leb d.instrument.polyphony g (omega arith)) at h)
   where
-    go : (b : Bool) → number_of (if b then replied (answer.Number 13) d.instrument else replied answer.Done
+    go : (b : Bool) → number_of (if b then replied (answer.Number refusal.IdleGenerator) d.instrument else replied answer.Done
         (instrument.with_generators d.instrument (silenced (One g) d.instrument.generators))).answer
         ≡ some n → n ≤ 11
     go true h = let e : ◌≡◌ {A = ℕ} 13 n = cc in absurd (q (sym e))

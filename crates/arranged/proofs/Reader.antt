@@ -1,7 +1,7 @@
 -- R14.7: whatever record the message finds, F0 opens a SysEx, 36 data bytes fill it, and the F7 finds a MIP message
 -- for us without fault.
 -- Assumes nothing.
-use Rattle.std.specs.Prelude.{if◌then◌else◌}
+use Rattle.std.specs.Prelude.{Ok, if◌then◌else◌}
 use mathlib.Core.Path.{◌≡◌, refl, sym, ap, ◌∙◌}
 use mathlib.Core.Bool.{Bool, true, false, ◌||◌}
 use mathlib.Core.List.{List, [], ◌∷◌, ◌++◌}
@@ -24,7 +24,6 @@ use Rattle.table.specs.Laws.{Rising, Distinct, Channels}
 use Rattle.table.proofs.Places.{entries_of-table}
 use Rattle.sysex.specs.declared.Kind.TheVariants.{Mip}
 use Rattle.sysex.specs.SysEx.{is_mip, kind_of}
-use Rattle.mip.specs.declared.Verdict.TheVariants.{Accepted}
 use Rattle.mip.specs.Mip.{pairs, faulty, judged}
 use Rattle.instrument.specs.declared.Instrument.{Instrument}
 use Rattle.playing.specs.declared.Answer.{Answer}
@@ -154,7 +153,7 @@ unfolding kind_of is_mip
 mip-kind id l = rw (le-leb 4 (length (0x7F ∷ 0x7F ∷ 0x0B ∷ 0x01 ∷ l)) (omega arith))
 
 judged-whole : (l : List ℕ) → length l ≡ 32 → faulty [] 0 (pairs l) ≡ none
-    → judged l ≡ record { verdict = Accepted; table = table_of (pairs l) }
+    → judged l ≡ Ok (table_of (pairs l))
 unfolding judged
 judged-whole l n f = rw (n, f)
 
