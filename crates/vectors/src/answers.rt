@@ -1,4 +1,5 @@
 // What commands of several kinds answer. Assumes nothing.
+use refusals::Refusal;
 use text::put;
 
 pub(crate) fn put_malformed(page: &mut [u8], at: usize) -> usize {
@@ -6,8 +7,8 @@ pub(crate) fn put_malformed(page: &mut [u8], at: usize) -> usize {
 }
 
 // The number of a refused query.
-pub(crate) fn put_refused(page: &mut [u8], at: usize, number: u8) -> usize {
-    let k = text::put_number(page, at, number as u64);
+pub(crate) fn put_refused(page: &mut [u8], at: usize, refusal: Refusal) -> usize {
+    let k = text::put_number(page, at, u64::from(refusal.number()));
     put(page, k, b"\n")
 }
 

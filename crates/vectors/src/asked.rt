@@ -5,7 +5,8 @@ use crate::sounds::put_channel_levels;
 use channels::Channel;
 use device::Device;
 use lines::put_field;
-use queries::{GeneratorAnswer, MaskAnswer, ShareAnswer};
+use queries::GeneratorState;
+use refusals::Refusal;
 use text::put;
 
 // No operation makes a state above 3, releasing.
@@ -18,9 +19,20 @@ fn put_state(page: &mut [u8], at: usize, state: u8) -> usize {
     }
 }
 
-fn put_generator(page: &mut [u8], at: usize, g: u8, a: GeneratorAnswer) -> usize {
-    match a {
-        GeneratorAnswer::GeneratorIs(state, channel, key) => {
+fn put_generator(
+    page: &mut [u8],
+    at: usize,
+    g: u8,
+    answer: Result<GeneratorState, Refusal>,
+) -> usize {
+    match answer {
+        Ok(
+            GeneratorState {
+                state,
+                channel,
+                key,
+            },
+        ) => {
             let b = put(page, at, b"generator");
             let c = put_field(page, b, g);
             let d = put_state(page, c, state);
@@ -28,26 +40,26 @@ fn put_generator(page: &mut [u8], at: usize, g: u8, a: GeneratorAnswer) -> usize
             let f = put_field(page, e, key);
             put(page, f, b"\n")
         }
-        GeneratorAnswer::NoGenerator => put_refused(page, at, 12),
+        Err(refusal) => put_refused(page, at, refusal),
     }
 }
 
-fn put_mask(page: &mut [u8], at: usize, a: MaskAnswer) -> usize {
-    match a {
-        MaskAnswer::IsMasked => put(page, at, b"masked\n"),
-        MaskAnswer::IsUnmasked => put(page, at, b"unmasked\n"),
-        MaskAnswer::NoSuchChannel => put_refused(page, at, 14),
+fn put_mask(page: &mut [u8], at: usize, answer: Result<bool, Refusal>) -> usize {
+    match answer {
+        Ok(true) => put(page, at, b"masked\n"),
+        Ok(false) => put(page, at, b"unmasked\n"),
+        Err(refusal) => put_refused(page, at, refusal),
     }
 }
 
-fn put_share(page: &mut [u8], at: usize, a: ShareAnswer) -> usize {
-    match a {
-        ShareAnswer::ShareIs(n) => {
+fn put_share(page: &mut [u8], at: usize, answer: Result<u8, Refusal>) -> usize {
+    match answer {
+        Ok(n) => {
             let b = put(page, at, b"share");
             let c = put_field(page, b, n);
             put(page, c, b"\n")
         }
-        ShareAnswer::NotAChannel => put_refused(page, at, 14),
+        Err(refusal) => put_refused(page, at, refusal),
     }
 }
 
@@ -58,53 +70,26 @@ fn put_rhythm(page: &mut [u8], at: usize, rhythm: bool) -> usize {
     put(page, at, b"melody\n")
 }
 
-// A channel's share among those of all.
-fn put_share_field(page: &mut [u8], at: usize, m: MaskAnswer, a: ShareAnswer) -> usize {
-    let MaskAnswer::IsUnmasked = m else {
-        return put(page, at, b",-");
-    };
-    let ShareAnswer::ShareIs(n) = a else {
-        return put(page, at, b",-");
-    };
-    put_field(page, at, n)
-}
-
+// The shares of all channels, - for a masked one.
 fn put_shares(page: &mut [u8], at: usize, d: Device) -> usize {
     let mut k = put(page, at, b"shares");
-    let mut c = 1;
-    while c <= 16 {
-        k = put_share_field(
-            page,
-            k,
-            queries::mask_query(d, c),
-            queries::share_query(d, c),
-        );
-        c += 1;
+    for c in 1..=16 {
+        k = match (queries::mask_query(d, c), queries::share_query(d, c)) {
+            (Ok(false), Ok(n)) => put_field(page, k, n),
+            _ => put(page, k, b",-"),
+        };
     }
     put(page, k, b"\n")
 }
 
-fn is_idle(a: GeneratorAnswer) -> bool {
-    match a {
-        GeneratorAnswer::GeneratorIs(state, _, _) => state == 0,
-        GeneratorAnswer::NoGenerator => true,
-    }
-}
-
-// The line of a generator, if it is not idle.
-fn put_player(page: &mut [u8], at: usize, g: u8, a: GeneratorAnswer) -> usize {
-    if is_idle(a) {
-        return at;
-    }
-    put_generator(page, at, g, a)
-}
-
+// The line of each generator that is not idle.
 fn put_players(page: &mut [u8], at: usize, d: Device) -> usize {
     let mut k = at;
-    let mut g = 0;
-    while g < 64 {
-        k = put_player(page, k, g, queries::generator_query(d, g));
-        g += 1;
+    for g in 0..64 {
+        let answer = queries::generator_query(d, g);
+        if answer.is_ok_and(|a| a.state != 0) {
+            k = put_generator(page, k, g, answer);
+        }
     }
     k
 }
@@ -139,52 +124,23 @@ fn put_numbers(page: &mut [u8], at: usize, x: Channel) -> usize {
     put(page, e, b"\n")
 }
 
-// The answer to a command with one number that asks for a channel's record.
-fn put_channel(page: &mut [u8], at: usize, command: u8, c: Channel) -> usize {
-    if command == b'L' {
-        return put_channel_levels(page, at, c);
-    }
-    put_numbers(page, at, c)
-}
-
-// The answer to a command with one number that asks the device.
-fn put_asked(page: &mut [u8], at: usize, d: Device, command: u8, n: u8) -> usize {
-    if command == b'G' {
-        return put_generator(page, at, n, queries::generator_query(d, n));
-    }
-    if command == b'M' {
-        return put_mask(page, at, queries::mask_query(d, n));
-    }
-    if command == b'S' {
-        return put_share(page, at, queries::share_query(d, n));
-    }
-    if command == b'D' {
-        return put_rhythm(page, at, queries::rhythm_query(d, n));
-    }
-    if ((command == b'C') | (command == b'L')) & (1 <= n) & (n <= 16) {
-        let i = d.instrument;
-        return put_channel(page, at, command, i.channel_of(n));
-    }
-    put_malformed(page, at)
-}
-
-// The answer to a command that changes nothing, with so many numbers, of which this is the first.
-pub(crate) fn put_told(
+// The answer to a command that asks the device.
+pub(crate) fn put_asked(
     page: &mut [u8],
     at: usize,
     d: Device,
     command: u8,
-    count: usize,
-    first: u8,
+    numbers: &[u8],
 ) -> usize {
-    if (command == b'T') & (count == 0) {
-        return put_shares(page, at, d);
+    match (command, numbers) {
+        (b'T', []) => put_shares(page, at, d),
+        (b'W', []) => put_players(page, at, d),
+        (b'G', &[g]) => put_generator(page, at, g, queries::generator_query(d, g)),
+        (b'M', &[c]) => put_mask(page, at, queries::mask_query(d, c)),
+        (b'S', &[c]) => put_share(page, at, queries::share_query(d, c)),
+        (b'D', &[c]) => put_rhythm(page, at, queries::rhythm_query(d, c)),
+        (b'C', &[c @ 1..=16]) => put_numbers(page, at, d.instrument.channel_of(c)),
+        (b'L', &[c @ 1..=16]) => put_channel_levels(page, at, d.instrument.channel_of(c)),
+        _ => put_malformed(page, at),
     }
-    if (command == b'W') & (count == 0) {
-        return put_players(page, at, d);
-    }
-    if count == 1 {
-        return put_asked(page, at, d, command, first);
-    }
-    put_malformed(page, at)
 }

@@ -36,23 +36,21 @@
 mod answers;
 mod asked;
 mod line;
-mod logs;
 mod pages;
 mod songs;
 mod sounds;
 
 use crate::answers::put_malformed;
-use crate::asked::put_told;
-use crate::line::{Awaits, Line, empty_line, read_byte};
-use crate::logs::{begin_log, put_end, take_part};
+use crate::asked::put_asked;
+use crate::line::{Awaits, Line, in_three};
 use crate::pages::put_service_asked;
 use crate::songs::put_song_asked;
-use crate::sounds::{pitch_asked, put_levels_asked, put_pitch};
+use crate::sounds::{put_levels_asked, put_pitch_asked};
 use arranging::Run;
-use console::{Input, Output};
+use console::{Failed, Filter, write_out};
 use device::Device;
 use events::Event;
-use lines::Offset;
+use std::ops::ControlFlow;
 
 // What is kept from byte to byte: the line, the offset of the next MIDI byte, the bytes of the page in use, the device,
 // and the log.
@@ -65,257 +63,128 @@ struct Bench {
     log: Run,
 }
 
-// After a turn: whether to go on, whether reading or writing failed, and what is kept.
-#[derive(Clone, Copy)]
-struct Turn {
-    more: bool,
-    failed: bool,
-    bench: Bench,
+impl Bench {
+    fn new() -> Bench {
+        Bench {
+            line: Line::new(),
+            at: 0,
+            used: 0,
+            device: device::start(1, 0).device,
+            log: arranging::begin(b""),
+        }
+    }
+
+    fn start(&mut self, page: &mut [u8], polyphony: u8, id: u8) {
+        let o = device::start(polyphony, id);
+        self.used = lines::put_line(page, self.used, None, o.answer);
+        self.at = 0;
+        self.device = o.device;
+    }
+
+    fn apply(&mut self, page: &mut [u8], offset: Option<u64>, e: Event) {
+        let o = events::apply(self.device, e);
+        self.used = lines::put_line(page, self.used, offset, o.answer);
+        self.device = o.device;
+    }
+
+    // MIDI bytes.
+    fn take_bytes(&mut self, page: &mut [u8], bytes: &[u8]) {
+        for b in bytes {
+            self.apply(page, Some(self.at), Event::Byte(*b));
+            self.at = self.at.saturating_add(1);
+        }
+    }
+
+    // A command.
+    fn run(&mut self, page: &mut [u8]) {
+        let line = self.line;
+        match (line.command, line.numbers()) {
+            (b'P', &[polyphony, id]) => self.start(page, polyphony, id),
+            (b'R', &[g]) => self.apply(page, None, Event::Report(g)),
+            (b'B', [_, ..]) => self.take_bytes(page, line.numbers()),
+            (b'O', order) => self.log = arranging::begin(order),
+            (b'A', [_, ..]) => self.log = arranging::take(self.log, line.numbers()),
+            (command, numbers) => self.used = self.put_told(page, command, numbers),
+        }
+    }
+
+    // The answer to a command that changes nothing.
+    fn put_told(&self, page: &mut [u8], command: u8, numbers: &[u8]) -> usize {
+        match (command, numbers) {
+            (b'K', &[key, sensitivity, msb, lsb]) => {
+                put_pitch_asked(page, self.used, key, sensitivity, msb, lsb)
+            }
+            (b'L', &[expression, volume, pan]) => {
+                put_levels_asked(page, self.used, expression, volume, pan)
+            }
+            (b'H', &[polyphony, a, b, c, d, e, f]) => put_song_asked(
+                page,
+                self.used,
+                polyphony,
+                in_three(a, b, c),
+                in_three(d, e, f),
+            ),
+            (b'E', []) => log_lines::put_written(page, self.used, arranging::end(self.log)),
+            (b'V', []) => put_service_asked(page, self.used, self.device, 323),
+            (b'V', &[high, low]) => {
+                put_service_asked(page, self.used, self.device, in_three(0, high, low))
+            }
+            _ => put_asked(page, self.used, self.device, command, numbers),
+        }
+    }
+
+    // A line's end: the line is run, if it is a command.
+    fn end_line(&mut self, page: &mut [u8]) {
+        match self.line.awaits {
+            Awaits::Command | Awaits::Comment => {}
+            Awaits::Gap => self.run(page),
+            _ => self.used = put_malformed(page, self.used),
+        }
+        self.line = Line::new();
+    }
+
+    // One byte of the input.
+    fn read(&mut self, page: &mut [u8], b: u8) {
+        self.used = text::put_byte(page, self.used, b);
+        if b == b'\n' {
+            self.end_line(page);
+        } else {
+            self.line.read(b);
+        }
+    }
+}
+
+impl Filter for Bench {
+    const NAME: &'static [u8] = b"vectors";
+
+    fn take(
+        &mut self,
+        rt: &HostRuntime,
+        page: &mut [u8],
+        bytes: &[u8],
+    ) -> Result<ControlFlow<()>, Failed> {
+        self.used = 0;
+        for b in bytes {
+            self.read(page, *b);
+        }
+        write_out(rt, Self::NAME, page, self.used)?;
+        Ok(ControlFlow::Continue(()))
+    }
+
+    // A last line without its end is run all the same.
+    fn end(&mut self, rt: &HostRuntime, page: &mut [u8]) -> Result<(), Failed> {
+        self.used = 0;
+        if !matches!(self.line.awaits, Awaits::Command) {
+            self.read(page, b'\n');
+        }
+        write_out(rt, Self::NAME, page, self.used)
+    }
 }
 
 // A command's answer is no longer than 64 lines, and the shortest command has two bytes, so the page has room for what
 // a read of 256 bytes calls for.
-fn empty_page() -> [u8; 262144] {
-    [0u8; 262144]
-}
-
-fn with_used(s: Bench, used: usize) -> Bench {
-    let mut next = s;
-    next.used = used;
-    next
-}
-
-fn start(s: Bench, page: &mut [u8], polyphony: u8, id: u8) -> Bench {
-    let o = device::start(polyphony, id);
-    let d = o.device;
-    let answer = o.answer;
-    let mut next = s;
-    next.used = lines::put_line(page, s.used, Offset::Nowhere, answer);
-    next.at = 0;
-    next.device = d;
-    next
-}
-
-fn take(s: Bench, page: &mut [u8], offset: Offset, e: Event) -> Bench {
-    let o = events::apply(s.device, e);
-    let d = o.device;
-    let answer = o.answer;
-    let mut next = s;
-    next.used = lines::put_line(page, s.used, offset, answer);
-    next.device = d;
-    next
-}
-
-fn offset_behind(at: u64) -> u64 {
-    if at < u64::MAX {
-        return at + 1;
-    }
-    at
-}
-
-fn take_byte(s: Bench, page: &mut [u8], b: u8) -> Bench {
-    let mut next = take(s, page, Offset::At(s.at), Event::Byte(b));
-    next.at = offset_behind(s.at);
-    next
-}
-
-// The first `count` of these numbers, as MIDI bytes.
-fn take_bytes(s: Bench, page: &mut [u8], numbers: [u8; 64], count: usize) -> Bench {
-    let mut next = s;
-    let mut i = 0;
-    while i < 64 {
-        if count <= i {
-            return next;
-        }
-        next = take_byte(next, page, numbers[i]);
-        i += 1;
-    }
-    next
-}
-
-fn with_log(s: Bench, log: Run) -> Bench {
-    let mut next = s;
-    next.log = log;
-    next
-}
-
-// A command to the log, or one that asks the device.
-fn run_log(s: Bench, page: &mut [u8], command: u8, count: usize, numbers: [u8; 64]) -> Bench {
-    let log = s.log;
-    let d = s.device;
-    if command == b'O' {
-        return with_log(s, begin_log(numbers, count));
-    }
-    if (command == b'A') & (0 < count) {
-        return with_log(s, take_part(log, numbers, count));
-    }
-    if (command == b'E') & (count == 0) {
-        return with_used(s, put_end(page, s.used, log));
-    }
-    if command == b'V' {
-        return with_used(s, put_service_asked(page, s.used, d, count, numbers));
-    }
-    with_used(s, put_told(page, s.used, d, command, count, numbers[0]))
-}
-
-// A command.
-fn run(s: Bench, page: &mut [u8]) -> Bench {
-    let l = s.line;
-    let command = l.command;
-    let count = l.count;
-    let numbers = l.numbers;
-    if (command == b'P') & (count == 2) {
-        return start(s, page, numbers[0], numbers[1]);
-    }
-    if (command == b'B') & (0 < count) {
-        return take_bytes(s, page, numbers, count);
-    }
-    if (command == b'R') & (count == 1) {
-        return take(s, page, Offset::Nowhere, Event::Report(numbers[0]));
-    }
-    if (command == b'K') & (count == 4) {
-        return with_used(s, put_pitch(page, s.used, pitch_asked(numbers)));
-    }
-    if (command == b'L') & (count == 3) {
-        return with_used(s, put_levels_asked(page, s.used, numbers));
-    }
-    if (command == b'H') & (count == 7) {
-        return with_used(s, put_song_asked(page, s.used, numbers));
-    }
-    run_log(s, page, command, count, numbers)
-}
-
-// A line's end: the line is run, if it is a command.
-fn end_line(s: Bench, page: &mut [u8]) -> Bench {
-    let l = s.line;
-    let awaits = l.awaits;
-    match awaits {
-        Awaits::Command => s,
-        Awaits::Comment => s,
-        Awaits::Gap => run(s, page),
-        _ => with_used(s, put_malformed(page, s.used)),
-    }
-}
-
-// One byte of the input.
-fn one(s: Bench, page: &mut [u8], b: u8) -> Bench {
-    let echoed = with_used(s, text::put_byte(page, s.used, b));
-    let l = echoed.line;
-    if b == b'\n' {
-        let mut next = end_line(echoed, page);
-        let fresh = empty_line();
-        next.line = fresh;
-        return next;
-    }
-    let read = read_byte(l, b);
-    let mut next = echoed;
-    next.line = read;
-    next
-}
-
-fn all(s: Bench, page: &mut [u8], bytes: &[u8]) -> Bench {
-    let mut next = s;
-    let mut i = 0;
-    while i < bytes.len() {
-        next = one(next, page, bytes[i]);
-        i += 1;
-    }
-    next
-}
-
-// Writes what is answered, and answers whether that failed.
-fn write_out(rt: &HostRuntime, page: &[u8], used: usize) -> bool {
-    let o = console::write(rt, page, used);
-    match o {
-        Output::Whole => false,
-        Output::Cut(_) => {
-            console::fail(rt, b"vectors: standard output takes no more\n");
-            true
-        }
-    }
-}
-
-fn written(rt: &HostRuntime, s: Bench, page: &[u8], more: bool) -> Turn {
-    let failed = write_out(rt, page, s.used);
-    Turn {
-        more: more & !failed,
-        failed: failed,
-        bench: with_used(s, 0),
-    }
-}
-
-// A last line without its end is run all the same.
-fn end(s: Bench, page: &mut [u8]) -> Bench {
-    let l = s.line;
-    let awaits = l.awaits;
-    match awaits {
-        Awaits::Command => s,
-        _ => one(s, page, b'\n'),
-    }
-}
-
-fn give_up(rt: &HostRuntime, s: Bench) -> Turn {
-    console::fail(rt, b"vectors: standard input can't be read\n");
-    Turn {
-        more: false,
-        failed: true,
-        bench: s,
-    }
-}
-
-fn read_once(rt: &HostRuntime, s: Bench, page: &mut [u8]) -> Turn {
-    let mut input = [0u8; 256];
-    let got = console::read(rt, &mut input);
-    match got {
-        Input::Bytes(n) => {
-            let after = all(s, page, &input[..n]);
-            written(rt, after, page, true)
-        }
-        Input::End => {
-            let last = end(s, page);
-            written(rt, last, page, false)
-        }
-        Input::Unreadable => give_up(rt, s),
-    }
-}
-
-// A proved loop has to end, so the turns are counted down from a number that no input uses up. Answers whether reading
-// or writing failed.
-fn read_all(rt: &HostRuntime, s: Bench, page: &mut [u8]) -> bool {
-    let mut turns = u64::MAX;
-    let mut k = s;
-    let mut more = true;
-    let mut failed = false;
-    while more {
-        if turns == 0 {
-            return true;
-        }
-        turns -= 1;
-        let t = read_once(rt, k, page);
-        more = t.more;
-        failed = t.failed;
-        let next = t.bench;
-        k = next;
-    }
-    failed
-}
-
-fn run_all(rt: &HostRuntime, page: &mut [u8]) -> bool {
-    let o = device::start(1, 0);
-    let d = o.device;
-    let log = arranging::begin(b"");
-    let s = Bench {
-        line: empty_line(),
-        at: 0,
-        used: 0,
-        device: d,
-        log: log,
-    };
-    read_all(rt, s, page)
-}
-
 fn main(rt: HostRuntime) {
-    let mut space = empty_page();
-    let page: &mut [u8] = &mut space;
-    run_all(&rt, page);
+    let mut input = [0u8; 256];
+    let mut page = [0u8; 262144];
+    let _ = console::run(&rt, Bench::new(), &mut input, &mut page);
 }

@@ -5,26 +5,31 @@ ghost use Rattle.gains.specs.Gains.{gains_in};
 
 use crate::answers::put_refused;
 use channels::Channel;
-use gains::GainsAnswer;
-use pitch::PitchAnswer;
+use gains::Gains;
+use pitch::Pitch;
+use refusals::Refusal;
 use text::put;
 
-pub(crate) fn put_pitch(page: &mut [u8], at: usize, a: PitchAnswer) -> usize {
-    match a {
-        PitchAnswer::Sounds(p) => {
+fn put_pitch(page: &mut [u8], at: usize, answer: Result<Pitch, Refusal>) -> usize {
+    match answer {
+        Ok(p) => {
             let k = put(page, at, b"pitch");
             pitch_lines::put_pitch(page, k, p)
         }
-        PitchAnswer::OutOfRange => put_refused(page, at, 21),
+        Err(refusal) => put_refused(page, at, refusal),
     }
 }
 
-fn pitch_of(key: u8, sensitivity: u8, msb: u8, lsb: u8) -> PitchAnswer {
-    pitch::pitch_of(key, sensitivity, (msb as u16) * 128 + (lsb as u16))
-}
-
-pub(crate) fn pitch_asked(numbers: [u8; 64]) -> PitchAnswer {
-    pitch_of(numbers[0], numbers[1], numbers[2], numbers[3])
+pub(crate) fn put_pitch_asked(
+    page: &mut [u8],
+    at: usize,
+    key: u8,
+    sensitivity: u8,
+    msb: u8,
+    lsb: u8,
+) -> usize {
+    let bend = u16::from(msb) * 128 + u16::from(lsb);
+    put_pitch(page, at, pitch::pitch_of(key, sensitivity, bend))
 }
 
 // A gain in hundred-thousandths, to the nearest, from the bits of its float: 24 binary digits, of which the exponent
@@ -67,23 +72,25 @@ fn put_both(page: &mut [u8], at: usize, left: u32, right: u32) -> usize {
     put(page, c, b"\n")
 }
 
-fn put_gains(page: &mut [u8], at: usize, a: GainsAnswer) -> usize
-    requires { T (not (is_nan (gains_in a).left)) × T (not (is_nan (gains_in a).right)) }
+fn put_gains(page: &mut [u8], at: usize, answer: Result<Gains, Refusal>) -> usize
+    requires { T (not (is_nan (gains_in answer).left)) × T (not (is_nan (gains_in answer).right)) }
 {
-    match a {
-        GainsAnswer::GainsAre(g) => put_both(page, at, f32::to_bits(g.left), f32::to_bits(g.right)),
-        GainsAnswer::OutOfRange => put_refused(page, at, 24),
+    match answer {
+        Ok(g) => put_both(page, at, g.left.to_bits(), g.right.to_bits()),
+        Err(refusal) => put_refused(page, at, refusal),
     }
 }
 
-fn put_levels(page: &mut [u8], at: usize, expression: u8, volume: u8, pan: u8) -> usize {
+pub(crate) fn put_levels_asked(
+    page: &mut [u8],
+    at: usize,
+    expression: u8,
+    volume: u8,
+    pan: u8,
+) -> usize {
     put_gains(page, at, gains::gains_of(expression, volume, pan))
 }
 
 pub(crate) fn put_channel_levels(page: &mut [u8], at: usize, c: Channel) -> usize {
     put_gains(page, at, gains::channel_gains(c))
-}
-
-pub(crate) fn put_levels_asked(page: &mut [u8], at: usize, numbers: [u8; 64]) -> usize {
-    put_levels(page, at, numbers[0], numbers[1], numbers[2])
 }

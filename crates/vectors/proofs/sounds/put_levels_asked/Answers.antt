@@ -1,8 +1,8 @@
--- `vectors::sounds::put_levels`: what `gains_of` answers are numbers, whose bits can be read (`Finite` of the crate
+-- `vectors::sounds::put_levels_asked`: what `gains_of` answers are numbers, whose bits can be read (`Finite` of the crate
 -- gains).
 -- Assumes nothing.
 use Rattle.gains.proofs.Finite.{numbers}
-use Rattle.vectors.proofs.sounds.put_levels.Goals as goal
+use Rattle.vectors.proofs.sounds.put_levels_asked.Goals as goal
 
 pub put_gains-requires : goal.put_gains-requires
 put_gains-requires c =
