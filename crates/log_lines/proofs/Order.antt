@@ -106,11 +106,7 @@ module _ (k : ℕ) (channels : List ℕ) where
   behind-it n = set channels k (at_most 255 n)
 
   cut-255 : (n : ℕ) → at_most 255 (kept n) ≡ at_most 255 n
-  cut-255 n = go (ltb n 99999999) refl
-    where
-      go : (x : Bool) → ltb n 99999999 ≡ x → at_most 255 (if x then n else 99999999) ≡ at_most 255 n
-      go true e = refl
-      go false e = let h = ltb-false n 99999999 e in rw (le-ltb n 255 (omega arith))
+  cut-255 n = omega arith
 
   put-number : (n : ℕ) → k < 16 → put_away (within true n) ≡ order_line new_line (k + 1) (behind-it n)
   unfolding put_away at

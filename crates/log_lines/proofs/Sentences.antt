@@ -8,7 +8,7 @@ use mathlib.Core.List.{List, [], ◌∷◌, ◌++◌, map, append_assoc}
 use native.Mathlib.Omega.{arith}
 use lib.Dec.{ltb, eqb}
 use lib.ListN.{length, length-map}
-use borrow.Author.Tests.{ltb-true, ltb-false, le-leb, lt-leb, not-true}
+use borrow.Author.Tests.{ltb-true, le-leb, lt-leb, not-true}
 use Rattle.text.specs.Text.{decimal}
 use Rattle.fields.specs.Fields.{is_field, are_fields, behind, is_number}
 use Rattle.fields.proofs.Numbers.{both}
@@ -117,11 +117,7 @@ are_bytes (c ∷ cs) = ltb c 256 && are_bytes cs
 decimal_number : (c : ℕ) → c < 256 → (is_number (decimal c) ≡ true) × (channel_in (decimal c) ≡ c)
 decimal_number c h =
     let w = written 19 c (omega arith) in
-    (w.number, rw w.is (go (ltb c 255) refl))
-  where
-    go : (x : Bool) → ltb c 255 ≡ x → (if x then c else 255) ≡ c
-    go true e = refl
-    go false e = let n = ltb-false c 255 e in omega arith
+    (w.number, rw w.is (omega arith))
 
 decimals : (cs : List ℕ) → are_bytes cs ≡ true
     → (are_numbers (map decimal cs) ≡ true) × (map channel_in (map decimal cs) ≡ cs)

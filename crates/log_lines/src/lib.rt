@@ -10,7 +10,7 @@ ghost use Rattle.log_lines.specs.LogLines.{lost, put_away, order_byte, usable, o
 ghost use Rattle.log_lines.specs.LogLines.{new_reading, bytes_read, ended, is_known, message_of, written_line};
 
 use arranging::{Run, Written};
-use fields::{Line, at_most};
+use fields::Line;
 use text::{put, put_number};
 
 // The order's line as far as it is read.
@@ -38,9 +38,8 @@ pub struct Reading {
 fn lose() -> OrderLine
     ensures { result ≡ lost }
 {
-    let number = fields::begin();
     OrderLine {
-        number: number,
+        number: fields::begin(),
         count: 17,
         channels: [0; 16],
     }
@@ -55,11 +54,11 @@ fn put_away(c: OrderLine) -> OrderLine
     if read.digit & (read.commas == 0) & (at < 16) {
         let number = fields::begin();
         let mut channels = c.channels;
-        channels[at] = at_most(255, read.last as u64) as u8;
+        channels[at] = read.last.min(255) as u8;
         return OrderLine {
-            number: number,
+            number,
             count: c.count + 1,
-            channels: channels,
+            channels,
         };
     }
     lose()
@@ -69,15 +68,12 @@ fn put_away(c: OrderLine) -> OrderLine
 fn next(c: OrderLine, b: u8) -> OrderLine
     ensures { result ≡ order_byte c b }
 {
-    if b == 44 {
+    if b == b',' {
         return put_away(c);
     }
-    let number = fields::read(c.number, b);
-    let channels = c.channels;
     OrderLine {
-        number: number,
-        count: c.count,
-        channels: channels,
+        number: fields::read(c.number, b),
+        ..c
     }
 }
 
@@ -86,7 +82,7 @@ fn usable(count: u8) -> usize
     ensures { (result ≡ usable count) × (result ≤ 16) }
 {
     if count <= 16 {
-        return count as usize;
+        return usize::from(count);
     }
     0
 }
@@ -107,17 +103,14 @@ fn begin_log(c: OrderLine) -> Run
 pub fn begin() -> Reading
     ensures { result ≡ new_reading }
 {
-    let number = fields::begin();
-    let order = OrderLine {
-        number: number,
-        count: 0,
-        channels: [0; 16],
-    };
-    let run = arranging::begin(b"");
     Reading {
         ordered: false,
-        order: order,
-        run: run,
+        order: OrderLine {
+            number: fields::begin(),
+            count: 0,
+            channels: [0; 16],
+        },
+        run: arranging::begin(b""),
     }
 }
 
@@ -127,8 +120,8 @@ fn in_log(order: OrderLine, run: Run) -> Reading
 {
     Reading {
         ordered: true,
-        order: order,
-        run: run,
+        order,
+        run,
     }
 }
 
@@ -146,7 +139,7 @@ pub fn all(c: Reading, bytes: &[u8]) -> Reading
     while i < bytes.len() {
         let b = bytes[i];
         i += 1;
-        if b == 10 {
+        if b == b'\n' {
             return in_log(order, arranging::take(begin_log(order), &bytes[i..]));
         }
         let after = next(order, b);
@@ -161,9 +154,7 @@ pub fn all(c: Reading, bytes: &[u8]) -> Reading
 pub fn is_known(c: Reading) -> bool
     ensures { result ≡ is_known c }
 {
-    let run = c.run;
-    let song = run.song;
-    c.ordered & (song.number != 0)
+    c.ordered & (c.run.song.number != 0)
 }
 
 // The end of the input. An order's line without its 0AH is taken all the same, with a log of no lines.

@@ -1,16 +1,11 @@
 -- `log_lines::all`: in the log all is heard at once. In the order's line the invariant is that what is left of the
 -- bytes, read by what is kept, is all of them; the measure is what is left.
 -- Assumes nothing.
-use Prim.Native.Nat.{◌+◌, ◌-◌, ◌≤◌}
-use mathlib.Core.Path.{◌≡◌, refl, sym, ap, ◌∙◌}
-use mathlib.Core.Bool.{Bool, true, false}
-use native.Mathlib.Omega.{arith}
-use lib.ListN.{length, take, drop}
-use Rattle.arranging.specs.declared.Run.{Run}
-use Rattle.arranging.specs.Run.{heard}
-use Rattle.log_lines.specs.declared.OrderLine.{OrderLine}
+use Prim.Native.Nat.{◌-◌, ◌≤◌}
+use mathlib.Core.Path.{◌≡◌}
+use mathlib.Core.Bool.{false}
+use lib.ListN.{length, drop}
 use Rattle.log_lines.specs.LogLines.{reading, bytes_read}
-use Rattle.log_lines.proofs.Input.{in_log, in_order, at_end, at_byte, no_more}
 use Rattle.log_lines.proofs.all.Given as goal
 
 abbrev pub invariant-loop-i : goal.invariant-loop-i

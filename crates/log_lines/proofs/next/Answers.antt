@@ -10,4 +10,4 @@ returns-then-b-eq44 c = rw (eq-eqb _ _ c.if-b-eq44.true) c.put_away.ensures
 
 pub returns : goal.returns
 unfolding order_byte
-returns c = rw (ne_eqb _ _ c.if-b-eq44.false, c.read-number.ensures)
+returns c = rw (ne_eqb _ _ c.if-b-eq44.false, c.read.ensures)

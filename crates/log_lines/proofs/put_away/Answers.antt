@@ -2,7 +2,6 @@
 -- Assumes nothing.
 use Rattle.log_lines.specs.LogLines.{put_away}
 use Rattle.log_lines.proofs.Order.{has_place}
-use borrow.Author.Rules.{rules}
 use Rattle.log_lines.proofs.put_away.Goals as goal
 
 pub bounds-channels-at : goal.bounds-channels-at
@@ -14,7 +13,7 @@ unfolding put_away
 returns-then-read-at c = rw (
   c.if-read-at.true,
   c.begin-number.ensures,
-  c.at_most.ensures.0,
+  c.min.ensures,
 )
 
 pub returns : goal.returns
