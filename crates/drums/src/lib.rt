@@ -4,19 +4,37 @@
 ghost use Rattle.std.specs.Prelude.{◌≡◌};
 ghost use Rattle.drums.specs.Drums.{group, excludes};
 
+// A drum key with the number of its exclusive group.
+#[derive(Clone, Copy)]
+struct Drum {
+    key: u8,
+    group: u8,
+}
+
+static DRUMS: [Drum; 11] = [
+    Drum { key: 42, group: 1 },
+    Drum { key: 44, group: 1 },
+    Drum { key: 46, group: 1 },
+    Drum { key: 71, group: 2 },
+    Drum { key: 72, group: 2 },
+    Drum { key: 73, group: 3 },
+    Drum { key: 74, group: 3 },
+    Drum { key: 78, group: 4 },
+    Drum { key: 79, group: 4 },
+    Drum { key: 80, group: 5 },
+    Drum { key: 81, group: 5 },
+];
+
 // The exclusive group of a key, if it has one.
-#[tactic(auto, unfolding(crate::specs::Drums::group_of))]
 fn group(key: u8) -> Option<u8>
     ensures { result ≡ group key }
 {
-    match key {
-        42 | 44 | 46 => Some(1),
-        71 | 72 => Some(2),
-        73 | 74 => Some(3),
-        78 | 79 => Some(4),
-        80 | 81 => Some(5),
-        _ => None,
+    for d in &DRUMS {
+        if d.key == key {
+            return Some(d.group);
+        }
     }
+    None
 }
 
 // Whether a new note of `key` silences one of `other`: another key of the same group. Not inlined, so that the passes

@@ -1,19 +1,36 @@
--- The first element that passes, and those that pass: in parts of a list, by tests that agree, and at turn i of a loop
--- that keeps what passes.
+-- A loop that looks for the first element that passes, or keeps those that pass: at turn i the answer for the rest of
+-- the list is the answer for the whole, or what is kept is what passes among the first i.
 -- Assumes nothing.
 use Rattle.std.specs.Prelude.{if◌then◌else◌}
 use mathlib.Core.Path.{◌≡◌, refl, sym, ap, ◌∙◌}
 use mathlib.Core.Bool.{Bool, true, false, false≢true}
 use mathlib.Core.List.{List, [], ◌∷◌, ◌++◌, append-nil}
-use mathlib.Core.Option.{some, none}
+use mathlib.Core.Option.{Option, some, none}
 use Prim.Native.Nat.{ℕ, ◌+◌, ◌≤◌, ◌<◌}
 use native.Mathlib.Numerals.{add-one}
 use native.Mathlib.Omega.{arith}
-use lib.ListN.{length, take, get_or}
-use lib.Seq.{take-suc}
+use lib.ListN.{length, take, drop, get_or, drop_of_length-le}
+use lib.Seq.{drop-cons, take-suc, get_or-take, length-take-le}
 use Rattle.loops.specs.Passes.{filter_by, first_of, count}
 
 module _ {A : Type 0} (p : A → Bool) where
+  -- the element at the loop's place passes: it is the answer
+  pub first_yes : (d : A) (l : List A) (i : ℕ) (r : Option A) → i < length l
+      → first_of p (drop i l) ≡ r → p (get_or l i d) ≡ true → some (get_or l i d) ≡ r
+  unfolding first_of
+  first_yes d l i r h e t = rw (drop-cons l i d h, t) at e
+
+  -- it does not: the answer is in the rest
+  pub first_no : (d : A) (l : List A) (i : ℕ) (r : Option A) → i < length l
+      → first_of p (drop i l) ≡ r → p (get_or l i d) ≡ false → first_of p (drop (i + 1) l) ≡ r
+  unfolding first_of
+  first_no d l i r h e t = rw add-one (rw (drop-cons l i d h, t) at e)
+
+  -- nothing is left
+  pub first_end : (l : List A) (i : ℕ) (r : Option A) → length l ≤ i → first_of p (drop i l) ≡ r → none ≡ r
+  unfolding first_of
+  first_end l i r h e = rw (drop_of_length-le l h) at e
+
   pub filter-append : (l m : List A) → filter_by p (l ++ m) ≡ filter_by p l ++ filter_by p m
   unfolding filter_by
   filter-append [] m = refl
@@ -98,3 +115,22 @@ first-among p q h (x ∷ l) = go (q x) (p x) refl refl (first-among p q h l)
     go true false e f ih = rw f ih
     go false true e f ih = absurd (false≢true (sym e ∙ h x f))
     go false false e f ih = ih
+
+-- the same search among the first n elements of an array
+module _ {A : Type 0} (p : A → Bool) (d : A) (l : List A) (n : ℕ) (k : n ≤ length l) where
+  part : length (take n l) ≡ n
+  part = length-take-le n l k
+
+  pub part_yes : (i : ℕ) (r : Option A) → i < n → first_of p (drop i (take n l)) ≡ r
+      → p (get_or l i d) ≡ true → some (get_or l i d) ≡ r
+  part_yes i r h e t =
+      let s = part in
+      let g = get_or-take n l i d h in
+      rw g at (first_yes p d (take n l) i r (omega arith) e (rw g t))
+
+  pub part_no : (i : ℕ) (r : Option A) → i < n → first_of p (drop i (take n l)) ≡ r
+      → p (get_or l i d) ≡ false → first_of p (drop (i + 1) (take n l)) ≡ r
+  part_no i r h e t = let s = part in first_no p d (take n l) i r (omega arith) e (rw (get_or-take n l i d h) t)
+
+  pub part_end : (i : ℕ) (r : Option A) → n ≤ i → first_of p (drop i (take n l)) ≡ r → none ≡ r
+  part_end i r h e = let s = part in first_end p (take n l) i r (omega arith) e

@@ -1,0 +1,11 @@
+-- `drums::group` meets its contract. Invariant: the first row of the key among the rows from the loop's place on is the
+-- first among all.
+-- Assumes nothing.
+use mathlib.Core.Path.{◌≡◌}
+use lib.ListN.{drop}
+use Rattle.loops.specs.Passes.{first_of}
+use Rattle.drums.proofs.Rows.{rows, is_key}
+use Rattle.drums.proofs.group.Given as goal
+
+abbrev pub invariant-loop-d : goal.invariant-loop-d
+invariant-loop-d l = first_of (is_key l.key) (drop l.d-index rows) ≡ first_of (is_key l.key) rows
