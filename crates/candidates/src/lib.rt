@@ -64,17 +64,26 @@ fn first_marked(order: Ages, marks: [u8; 256]) -> Option<u8>
     ensures { result ≡ given (first_of (λ g. not (eqb (get_or marks g 0) 0)) (oldest_first order)) }
 {
     let n = usize::from(order.count.min(64));
-    order.generator[..n]
-        .iter()
-        .copied()
-        .find(|g| marks[usize::from(*g)] != 0)
+    let numbers = order.generator;
+    for g in &numbers[..n] {
+        if marks[*g as usize] != 0 {
+            return Some(*g);
+        }
+    }
+    None
 }
 
 // Step 4 of a note-on: the idle generator of lowest number among the first P.
 pub fn lowest_idle(generators: Generators, polyphony: u8) -> Option<u8>
     ensures { result ≡ lowest_idle generators polyphony }
 {
-    (0..polyphony.min(64)).find(|g| generators.state[usize::from(*g)] == generators::IDLE)
+    let n = polyphony.min(64);
+    for g in 0..n {
+        if generators.state[g as usize] == generators::IDLE {
+            return Some(g);
+        }
+    }
+    None
 }
 
 // The oldest generator of those wanted. Mostly there is none: the order of age is gone through only where there is one.

@@ -1,32 +1,42 @@
--- `candidates::first_marked` meets its contract: what `find` finds is the first with a mark.
+-- `candidates::first_marked` meets its contract, by the laws of a search: what is gone over is the order of age.
 -- Assumes nothing.
-use Rattle.std.proofs.Common.{rules, ◌≡◌, ℕ, List, sym, ap, ◌∙◌, not, eqb, get_or, take}
-use Rattle.std.specs.Prelude.{Bool, find, min}
-use Rattle.std.proofs.lemmas.Iterator.{YieldsList-from_slice}
-use Rattle.std.proofs.lemmas.Iterator.Adapters.{option_map_id}
-use Rattle.std.proofs.lemmas.Iterator.Consumers.{YieldsList-from_copied}
-use Rattle.std.proofs.lemmas.Iterator.Search.{find_from_yields_List}
-use borrow.Author.Tests.{tests}
+use mathlib.Core.Path.{◌≡◌, ap, ◌∙◌}
+use mathlib.Core.Bool.{not}
+use mathlib.Core.List.{List}
+use Prim.Native.Nat.{ℕ, min}
+use lib.ListN.{length, take}
+use borrow.Author.Tests.{eq-eqb, ne_eqb}
 use Rattle.loops.specs.Cases.{given}
 use Rattle.loops.specs.Passes.{first_of}
 use Rattle.loops.proofs.Padded.{take-at_most}
-use Rattle.loops.proofs.Words.{find_std}
+use Rattle.loops.proofs.Search.{first_yes, first_no, first_end}
+use Rattle.ages.specs.declared.Ages.{Ages}
+use Rattle.ages.specs.Ages.{oldest_first}
 use Rattle.ages.proofs.Sizes.{generator_64}
+use Rattle.candidates.proofs.first_marked.Invariants.{has-mark}
 use Rattle.candidates.proofs.first_marked.Goals as goal
 
-abbrev has-mark : List ℕ → ℕ → Bool
-has-mark marks g = not (eqb (get_or marks g 0) 0)
+-- the part that is gone over is the order of age, and so its first is that one's first
+by_age : (order : Ages) (marks : List ℕ) (n : ℕ) → n ≡ min order.count 64 → length order.generator ≡ 64
+    → given (first_of (has-mark marks) (take n order.generator)) ≡ given (first_of (has-mark marks) (oldest_first order))
+by_age order marks n e l =
+    ap (λ (l : List ℕ). given (first_of (has-mark marks) l))
+    (ap (λ (n : ℕ). take n order.generator) e ∙ take-at_most 64 order.count order.generator l)
+
+pub returns-then-marks-g-ne0 : goal.returns-then-marks-g-ne0
+returns-then-marks-g-ne0 c =
+    ap given
+    (first_yes (has-mark c.args.marks) 0 _ c.loop-g.g-index _ c.loop-g-test.true c.loop-g.invariant
+    (ap not (ne_eqb _ _ c.if-marks-g-ne0.true)))
+    ∙ by_age c.args.order c.args.marks c.from-n.result (c.from-n.ensures ∙ c.min.ensures)
+    (generator_64 c.args.order c.well_formed.0)
+
+pub loop-g-preserved : goal.loop-g-preserved
+loop-g-preserved c =
+    first_no (has-mark c.args.marks) 0 _ c.loop-g.g-index _ c.loop-g-test.true c.loop-g.invariant
+    (ap not (eq-eqb _ _ c.if-marks-g-ne0.false))
 
 pub returns : goal.returns
 returns c =
-    let a = c.args in
-    let order = a.order in
-    let p = has-mark a.marks in
-    let e : c.find.result ≡ find p (take (min order.count 64) order.generator) =
-    sym (option_map_id c.find.result) ∙ find_from_yields_List p _ _ c.find.result c.find.ensures.ran
-    (YieldsList-from_copied (YieldsList-from_slice (take (min order.count 64) order.generator) cc))
-    (λ x b q k. search (rules, tests)) in
-    e
-    ∙ find_std p _
-    ∙ ap (λ (l : List ℕ). given (first_of p l))
-    (take-at_most 64 order.count order.generator (generator_64 order c.well_formed.0))
+    ap given (first_end (has-mark c.args.marks) _ c.loop-g.g-index _ c.loop-g-test.false c.loop-g.invariant) ∙ by_age c.args.order c.args.marks c.from-n.result (c.from-n.ensures ∙ c.min.ensures)
+    (generator_64 c.args.order c.well_formed.0)
