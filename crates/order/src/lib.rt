@@ -5,10 +5,14 @@ ghost use Rattle.std.specs.Prelude.{◌≡◌, ◌+◌, eqb};
 ghost use Rattle.order.specs.Order.{each, times, order_of};
 
 // How often channel c stands in the order.
-fn times(order: [u8; 16], c: u8) -> usize
+fn times(order: [u8; 16], c: u8) -> u8
     ensures { result ≡ times order c }
 {
-    order.iter().filter(|x| **x == c).count()
+    let mut n: u8 = 0;
+    for x in &order {
+        n += u8::from(*x == c);
+    }
+    n
 }
 
 // Each of the channels 1 to 16 stands there once.
