@@ -54,9 +54,9 @@ pub fn byte(d: &mut Device, b: u8) -> Answer
         × (d.new ≡ (taken d.old (Byte b)).device) }
 {
     let c = d.parser.completes(b);
-    if let Some(answer) = touched::quiet_answer(c) {
+    if touched::is_quiet(c) {
         d.parser = d.parser.after(b);
-        return answer;
+        return touched::quiet_answer(c);
     }
     hear(d, b, c)
 }

@@ -1,5 +1,5 @@
 -- What a byte touches of the record, by what it completed: most touch the parser alone, and a note-on the generators.
-use Rattle.std.specs.Prelude.{Option, Some, None}
+use Rattle.std.specs.Prelude.{Bool, true, false, Option, Some, None}
 use Rattle.refusals.specs.declared.Refusal.TheVariants as refusal
 use Rattle.splitter.specs.declared.Completed.{Completed}
 use Rattle.splitter.specs.declared.Completed.TheVariants as completed
@@ -10,13 +10,21 @@ use Rattle.playing.specs.declared.Answer.{Answer}
 use Rattle.playing.specs.declared.Answer.TheVariants as answer
 use Rattle.touched.specs.declared.Key.{Key}
 
--- the answer where the parser alone is touched: nothing is completed (R4.13), or it is number 3 or 4 (R4.9, R4.10)
-abbrev pub quiet_answer : Completed → Option Answer
-quiet_answer completed.Nothing = Some answer.Nothing
-quiet_answer completed.Stray = Some (answer.Number refusal.Stray)
-quiet_answer completed.Cut = Some (answer.Number refusal.Cut)
-quiet_answer (completed.Message s a b) = None
-quiet_answer completed.SysEx = None
+-- these complete nothing (R4.13), or are numbers 3 and 4 (R4.9, R4.10)
+abbrev pub is_quiet : Completed → Bool
+is_quiet completed.Nothing = true
+is_quiet completed.Stray = true
+is_quiet completed.Cut = true
+is_quiet (completed.Message s a b) = false
+is_quiet completed.SysEx = false
+
+-- the answer to one of them; of any other it says nothing
+abbrev pub quiet_answer : Completed → Answer
+quiet_answer completed.Nothing = answer.Nothing
+quiet_answer completed.Stray = answer.Number refusal.Stray
+quiet_answer completed.Cut = answer.Number refusal.Cut
+quiet_answer (completed.Message s a b) = answer.Nothing
+quiet_answer completed.SysEx = answer.Nothing
 
 -- the channel and key of a note-on with a velocity above 0
 abbrev pub key_in : Message → Option Key

@@ -3,22 +3,28 @@
 #![tactic(auto)]
 
 ghost use Rattle.std.specs.Prelude.{◌≡◌};
-ghost use Rattle.touched.specs.Touched.{quiet_answer, key_in, key_of};
+ghost use Rattle.touched.specs.Touched.{is_quiet, quiet_answer, key_in, key_of};
 
 use message::Message;
 use playing::Answer;
 use refusals::Refusal;
 use splitter::Completed;
 
-// The answer to a byte that concerns the parser alone; none where it concerns more.
-pub fn quiet_answer(c: Completed) -> Option<Answer>
+// Whether the byte concerns the parser alone.
+pub fn is_quiet(c: Completed) -> bool
+    ensures { result ≡ is_quiet c }
+{
+    matches!(c, Completed::Nothing | Completed::Stray | Completed::Cut)
+}
+
+// The answer to such a byte.
+pub fn quiet_answer(c: Completed) -> Answer
     ensures { result ≡ quiet_answer c }
 {
     match c {
-        Completed::Nothing => Some(Answer::Nothing),
-        Completed::Stray => Some(Answer::Number(Refusal::Stray)),
-        Completed::Cut => Some(Answer::Number(Refusal::Cut)),
-        Completed::Message(_, _, _) | Completed::SysEx => None,
+        Completed::Stray => Answer::Number(Refusal::Stray),
+        Completed::Cut => Answer::Number(Refusal::Cut),
+        _ => Answer::Nothing,
     }
 }
 
