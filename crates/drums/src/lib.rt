@@ -11,7 +11,7 @@ struct Drum {
     group: u8,
 }
 
-static DRUMS: [Drum; 11] = [
+const DRUMS: [Drum; 11] = [
     Drum { key: 42, group: 1 },
     Drum { key: 44, group: 1 },
     Drum { key: 46, group: 1 },
@@ -29,7 +29,8 @@ static DRUMS: [Drum; 11] = [
 fn group(key: u8) -> Option<u8>
     ensures { result ≡ group key }
 {
-    for d in &DRUMS {
+    for i in 0..11 {
+        let d = DRUMS[i];
         if d.key == key {
             return Some(d.group);
         }
@@ -37,9 +38,7 @@ fn group(key: u8) -> Option<u8>
     None
 }
 
-// Whether a new note of `key` silences one of `other`: another key of the same group. Not inlined, so that the passes
-// over the generators that ask nothing of a group stay small.
-#[inline(never)]
+// Whether a new note of `key` silences one of `other`: another key of the same group.
 pub fn excluded(key: u8, other: u8) -> bool
     ensures { result ≡ excludes key other }
 {

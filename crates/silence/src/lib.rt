@@ -31,7 +31,7 @@ fn leaves(leaving: Leaving, g: u8, state: u8, channel: u8, key: u8) -> bool
     match leaving {
         Leaving::One(h) => g == h,
         Leaving::Channel(c) => channel == c,
-        Leaving::Group(c, k) => (channel == c) && drums::excluded(k, key),
+        Leaving::Group(c, k) => (channel == c) & drums::excluded(k, key),
     }
 }
 

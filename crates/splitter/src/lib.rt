@@ -71,9 +71,9 @@ impl Parser {
         let mut bytes = self.bytes;
         bytes[usize::from(n)] = b;
         Parser {
+            status: self.status,
             count: n + 1,
             bytes,
-            ..self
         }
     }
 
@@ -170,7 +170,7 @@ impl Parser {
 fn one_data_byte(s: u8) -> bool
     ensures { result ≡ one_data_byte s }
 {
-    matches!(s, 0xC0..=0xDF | 0xF1 | 0xF3)
+    ((0xC0 <= s) & (s < 0xE0)) | ((s == 0xF1) | (s == 0xF3))
 }
 
 // What status byte b completes where s was in force.

@@ -12,18 +12,18 @@ use Rattle.drums.proofs.group.Goals as goal
 pub returns-then-d-key : goal.returns-then-d-key
 returns-then-d-key c =
     let k = c.args.key in
-    let h : c.loop-d.d-index < length rows = omega arith in
+    let h : c.loop-i.i < length rows = omega arith in
     of_row k _ (omega arith)
-    (first_yes (is_key k) none_row rows c.loop-d.d-index _ h c.loop-d.invariant (eq-eqb _ _ c.if-d-key.true))
+    (first_yes (is_key k) none_row rows c.loop-i.i _ h c.loop-i.invariant (eq-eqb _ _ c.if-d-key.true))
 
-pub loop-d-preserved : goal.loop-d-preserved
-loop-d-preserved c =
+pub loop-i-preserved : goal.loop-i-preserved
+loop-i-preserved c =
     let k = c.args.key in
-    let h : c.loop-d.d-index < length rows = omega arith in
-    first_no (is_key k) none_row rows c.loop-d.d-index _ h c.loop-d.invariant (ne_eqb _ _ c.if-d-key.false)
+    let h : c.loop-i.i < length rows = omega arith in
+    first_no (is_key k) none_row rows c.loop-i.i _ h c.loop-i.invariant (ne_eqb _ _ c.if-d-key.false)
 
 pub returns : goal.returns
 returns c =
     let k = c.args.key in
-    let h : length rows ≤ c.loop-d.d-index = omega arith in
-    of_none k (omega arith) (first_end (is_key k) rows c.loop-d.d-index _ h c.loop-d.invariant)
+    let h : length rows ≤ c.loop-i.i = omega arith in
+    of_none k (omega arith) (first_end (is_key k) rows c.loop-i.i _ h c.loop-i.invariant)

@@ -7,5 +7,5 @@ use Rattle.loops.specs.Passes.{first_of}
 use Rattle.drums.proofs.Rows.{rows, is_key}
 use Rattle.drums.proofs.group.Given as goal
 
-abbrev pub invariant-loop-d : goal.invariant-loop-d
-invariant-loop-d l = first_of (is_key l.key) (drop l.d-index rows) ≡ first_of (is_key l.key) rows
+abbrev pub invariant-loop-i : goal.invariant-loop-i
+invariant-loop-i l = first_of (is_key l.key) (drop l.i rows) ≡ first_of (is_key l.key) rows
