@@ -9,6 +9,7 @@ ghost use Rattle.console.specs.Console.{Reads, Writes};
 
 use std::io::{Read, Write};
 use std::ops::ControlFlow;
+use text::Page;
 
 // So many calls in a row that move nothing are an error. A signal interrupts a call once and no call a hundred times in
 // a row; an input that has no byte yet and does not wait for one (O_NONBLOCK) is an error that is said.
@@ -66,26 +67,18 @@ fn write_all<W: Write>(output: &mut W, bytes: &[u8]) -> Result<(), Cut>
     Ok(())
 }
 
-// Writes the first `used` bytes of the page, or all of it if that is more than it has. What reaches the other end no
-// contract can say.
-fn write_first<W: Write>(output: &mut W, page: &[u8], used: usize) -> Result<(), Cut>
-    ensures { Writes (min used (length page.now)) result }
+// Writes what the page has to standard output. What reaches the other end no contract can say.
+pub fn write<const N: usize>(rt: &HostRuntime, page: &Page<N>) -> Result<(), Cut>
+    ensures { Writes (min page.now.used (length page.now.bytes)) result }
 {
-    write_all(output, page.get(..used).unwrap_or(page))
-}
-
-// That to standard output.
-pub fn write(rt: &HostRuntime, page: &[u8], used: usize) -> Result<(), Cut>
-    ensures { Writes (min used (length page.now)) result }
-{
-    write_first(&mut rt.stdout(), page, used)
+    write_all(&mut rt.stdout(), page.written())
 }
 
 // That to standard error.
-pub fn write_error(rt: &HostRuntime, page: &[u8], used: usize) -> Result<(), Cut>
-    ensures { Writes (min used (length page.now)) result }
+pub fn write_error<const N: usize>(rt: &HostRuntime, page: &Page<N>) -> Result<(), Cut>
+    ensures { Writes (min page.now.used (length page.now.bytes)) result }
 {
-    write_first(&mut rt.stderr(), page, used)
+    write_all(&mut rt.stderr(), page.written())
 }
 
 // Writes a line to standard error, if that takes it, and answers the status of a program that failed.
@@ -103,13 +96,13 @@ pub fn fail(rt: &HostRuntime, line: &[u8]) -> u32
 pub struct Failed;
 
 // A program that reads standard input and writes standard output: what it keeps from read to read, and what it writes,
-// out of a page that it is lent.
-pub trait Filter: Copy {
+// out of a page that it is lent, of which nothing is written then.
+pub trait Filter<const N: usize>: Copy {
     // Its name, which stands before an error.
     const NAME: &'static [u8];
 
     // Before the first read.
-    fn begin(&mut self, rt: &HostRuntime, page: &mut [u8]) -> Result<(), Failed> {
+    fn begin(&mut self, rt: &HostRuntime, page: &mut Page<N>) -> Result<(), Failed> {
         Ok(())
     }
 
@@ -117,12 +110,12 @@ pub trait Filter: Copy {
     fn take(
         &mut self,
         rt: &HostRuntime,
-        page: &mut [u8],
+        page: &mut Page<N>,
         bytes: &[u8],
     ) -> Result<ControlFlow<()>, Failed>;
 
     // What the end of the input adds.
-    fn end(&mut self, rt: &HostRuntime, page: &mut [u8]) -> Result<(), Failed>;
+    fn end(&mut self, rt: &HostRuntime, page: &mut Page<N>) -> Result<(), Failed>;
 }
 
 // Tells an error, behind the program's name.
@@ -132,24 +125,32 @@ fn tell(rt: &HostRuntime, name: &[u8], what: &[u8]) -> Failed {
     Failed
 }
 
-// Writes the first `used` bytes of the page to standard output.
-pub fn write_out(rt: &HostRuntime, name: &[u8], page: &[u8], used: usize) -> Result<(), Failed> {
-    write(rt, page, used).map_err(|_| tell(rt, name, b": standard output takes no more\n"))
+// Writes what the page has to standard output, after which nothing of it is written.
+pub fn write_out<const N: usize>(
+    rt: &HostRuntime,
+    name: &[u8],
+    page: &mut Page<N>,
+) -> Result<(), Failed>
+    ensures { page.new.used ≡ 0 }
+{
+    let outcome = write(rt, page).map_err(|_| tell(rt, name, b": standard output takes no more\n"));
+    page.clear();
+    outcome
 }
 
 // Writes an answer to standard error. If that fails there is no place to tell it, and the status alone says so.
-pub fn write_answer(rt: &HostRuntime, page: &[u8], used: usize) -> Result<(), Failed> {
-    write_error(rt, page, used).map_err(|_| Failed)
+pub fn write_answer<const N: usize>(rt: &HostRuntime, page: &Page<N>) -> Result<(), Failed> {
+    write_error(rt, page).map_err(|_| Failed)
 }
 
 // Runs a program on an input of any length, which is read in parts that fit the input's buffer. A proved loop has to
 // end, so the reads are counted, up to a number that no input uses up. Nothing is answered for what could not be read:
 // the input did not end.
-pub fn run<F: Filter>(
+pub fn run<const N: usize, F: Filter<N>>(
     rt: &HostRuntime,
     mut filter: F,
     input: &mut [u8],
-    page: &mut [u8],
+    page: &mut Page<N>,
 ) -> Result<(), Failed> {
     filter.begin(rt, page)?;
     for _ in 0..u64::MAX {

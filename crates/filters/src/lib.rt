@@ -12,12 +12,15 @@ use listed::Lister;
 use log_lines::Reading;
 use song_lines::Request;
 use std::ops::ControlFlow;
+use text::Page;
 
 // A byte lists no more than 128 bytes, and is answered by no more than 16, so the page has room for what a read of 1,024
 // calls for. It has room for the longest song too.
-fn run<F: Filter>(rt: &HostRuntime, filter: F) -> Result<(), Failed> {
+const PAGE: usize = 131072;
+
+fn run<F: Filter<PAGE>>(rt: &HostRuntime, filter: F) -> Result<(), Failed> {
     let mut input = [0u8; 1024];
-    let mut page = [0u8; 131072];
+    let mut page = Page::new();
     console::run(rt, filter, &mut input, &mut page)
 }
 
@@ -38,33 +41,32 @@ struct Listing {
     lister: Lister,
 }
 
-impl Filter for Listing {
+impl Filter<PAGE> for Listing {
     const NAME: &'static [u8] = b"listing";
 
-    fn begin(&mut self, rt: &HostRuntime, page: &mut [u8]) -> Result<(), Failed> {
-        let used = listed::put_heading(page);
-        write_out(rt, Self::NAME, page, used)
+    fn begin(&mut self, rt: &HostRuntime, page: &mut Page<PAGE>) -> Result<(), Failed> {
+        listed::put_heading(page);
+        write_out(rt, Self::NAME, page)
     }
 
     // An input whose start was refused is over.
     fn take(
         &mut self,
         rt: &HostRuntime,
-        page: &mut [u8],
+        page: &mut Page<PAGE>,
         bytes: &[u8],
     ) -> Result<ControlFlow<()>, Failed> {
-        let s = listed::all(self.lister, page, bytes);
-        self.lister = s.lister;
-        write_out(rt, Self::NAME, page, s.used)?;
+        self.lister = listed::all(self.lister, page, bytes);
+        write_out(rt, Self::NAME, page)?;
         if listed::is_refused(self.lister.awaits) {
             return Ok(ControlFlow::Break(()));
         }
         Ok(ControlFlow::Continue(()))
     }
 
-    fn end(&mut self, rt: &HostRuntime, page: &mut [u8]) -> Result<(), Failed> {
-        let used = listed::end(self.lister, page);
-        write_out(rt, Self::NAME, page, used)
+    fn end(&mut self, rt: &HostRuntime, page: &mut Page<PAGE>) -> Result<(), Failed> {
+        listed::end(self.lister, page);
+        write_out(rt, Self::NAME, page)
     }
 }
 
@@ -82,24 +84,23 @@ struct Pitches {
     line: Line,
 }
 
-impl Filter for Pitches {
+impl Filter<PAGE> for Pitches {
     const NAME: &'static [u8] = b"pitches";
 
     fn take(
         &mut self,
         rt: &HostRuntime,
-        page: &mut [u8],
+        page: &mut Page<PAGE>,
         bytes: &[u8],
     ) -> Result<ControlFlow<()>, Failed> {
-        let s = pitch_lines::all(self.line, page, bytes);
-        self.line = s.line;
-        write_out(rt, Self::NAME, page, s.used)?;
+        self.line = pitch_lines::all(self.line, page, bytes);
+        write_out(rt, Self::NAME, page)?;
         Ok(ControlFlow::Continue(()))
     }
 
-    fn end(&mut self, rt: &HostRuntime, page: &mut [u8]) -> Result<(), Failed> {
-        let used = pitch_lines::end(self.line, page);
-        write_out(rt, Self::NAME, page, used)
+    fn end(&mut self, rt: &HostRuntime, page: &mut Page<PAGE>) -> Result<(), Failed> {
+        pitch_lines::end(self.line, page);
+        write_out(rt, Self::NAME, page)
     }
 }
 
@@ -124,45 +125,45 @@ impl HardestSong {
     fn give_song(
         &mut self,
         rt: &HostRuntime,
-        page: &mut [u8],
+        page: &mut Page<PAGE>,
         polyphony: u8,
         n: usize,
     ) -> Result<(), Failed> {
-        let w = song_lines::put_song(page, polyphony, n);
-        write_out(rt, Self::NAME, page, w.used)?;
-        self.refused |= w.answer.is_err();
-        let mut line = [0u8; 16];
-        let used = song_lines::put_answer(&mut line, w.answer);
-        write_answer(rt, &line, used)
+        let answer = song_lines::put_song(page, polyphony, n);
+        write_out(rt, Self::NAME, page)?;
+        self.refused |= answer.is_err();
+        let mut line = Page::<16>::new();
+        song_lines::put_answer(&mut line, answer);
+        write_answer(rt, &line)
     }
 
     fn answer(
         &mut self,
         rt: &HostRuntime,
-        page: &mut [u8],
+        page: &mut Page<PAGE>,
         request: Request,
     ) -> Result<(), Failed> {
         match request {
             Request::Nothing => Ok(()),
             Request::Malformed => {
                 self.refused = true;
-                let mut line = [0u8; 16];
-                let used = song_lines::put_malformed(&mut line);
-                write_answer(rt, &line, used)
+                let mut line = Page::<16>::new();
+                song_lines::put_malformed(&mut line);
+                write_answer(rt, &line)
             }
             Request::Song(polyphony, n) => self.give_song(rt, page, polyphony, n),
         }
     }
 }
 
-impl Filter for HardestSong {
+impl Filter<PAGE> for HardestSong {
     const NAME: &'static [u8] = b"hardest_song";
 
     // Each request is answered as soon as its line has ended.
     fn take(
         &mut self,
         rt: &HostRuntime,
-        page: &mut [u8],
+        page: &mut Page<PAGE>,
         bytes: &[u8],
     ) -> Result<ControlFlow<()>, Failed> {
         for b in bytes {
@@ -174,7 +175,7 @@ impl Filter for HardestSong {
     }
 
     // A request that was refused, at any time, is told by the status.
-    fn end(&mut self, rt: &HostRuntime, page: &mut [u8]) -> Result<(), Failed> {
+    fn end(&mut self, rt: &HostRuntime, page: &mut Page<PAGE>) -> Result<(), Failed> {
         let request = song_lines::end(self.line);
         self.answer(rt, page, request)?;
         if self.refused {
@@ -202,14 +203,14 @@ struct Arrange {
     reading: Reading,
 }
 
-impl Filter for Arrange {
+impl Filter<PAGE> for Arrange {
     const NAME: &'static [u8] = b"arrange";
 
     // Where a number has fallen the answer is known, whatever comes behind it.
     fn take(
         &mut self,
         rt: &HostRuntime,
-        page: &mut [u8],
+        page: &mut Page<PAGE>,
         bytes: &[u8],
     ) -> Result<ControlFlow<()>, Failed> {
         self.reading = log_lines::all(self.reading, bytes);
@@ -221,13 +222,13 @@ impl Filter for Arrange {
     }
 
     // The message is written whole before its line says so, and a number is told by the status.
-    fn end(&mut self, rt: &HostRuntime, page: &mut [u8]) -> Result<(), Failed> {
+    fn end(&mut self, rt: &HostRuntime, page: &mut Page<PAGE>) -> Result<(), Failed> {
         let w = log_lines::end(self.reading);
-        let used = log_lines::put_message(page, w);
-        write_out(rt, Self::NAME, page, used)?;
-        let mut line = [0u8; 160];
-        let length = log_lines::put_written(&mut line, 0, w);
-        write_answer(rt, &line, length)?;
+        log_lines::put_message(page, w);
+        write_out(rt, Self::NAME, page)?;
+        let mut line = Page::<160>::new();
+        log_lines::put_written(&mut line, w);
+        write_answer(rt, &line)?;
         if w.number != 0 {
             return Err(Failed);
         }
@@ -246,18 +247,18 @@ pub fn arrange_status(rt: &HostRuntime) -> u32
 // ---- the program that writes the service page
 
 #[derive(Clone, Copy)]
-struct Page {
+struct ServicePage {
     lister: Lister,
 }
 
-impl Filter for Page {
+impl Filter<PAGE> for ServicePage {
     const NAME: &'static [u8] = b"page";
 
     // Nothing is written before the input's end, unless its start was refused.
     fn take(
         &mut self,
         rt: &HostRuntime,
-        page: &mut [u8],
+        page: &mut Page<PAGE>,
         bytes: &[u8],
     ) -> Result<ControlFlow<()>, Failed> {
         self.lister = page_lines::all(self.lister, bytes);
@@ -269,10 +270,10 @@ impl Filter for Page {
     }
 
     // A refused start is told by the status.
-    fn end(&mut self, rt: &HostRuntime, page: &mut [u8]) -> Result<(), Failed> {
+    fn end(&mut self, rt: &HostRuntime, page: &mut Page<PAGE>) -> Result<(), Failed> {
         let lister = page_lines::end(self.lister);
-        let used = page_lines::put_answer(page, lister);
-        write_out(rt, Self::NAME, page, used)?;
+        page_lines::put_answer(page, lister);
+        write_out(rt, Self::NAME, page)?;
         if listed::is_refused(lister.awaits) {
             return Err(Failed);
         }
@@ -285,5 +286,5 @@ pub fn page_status(rt: &HostRuntime) -> u32
     ensures { result ≤ 1 }
 {
     let lister = listed::begin();
-    status(run(rt, Page { lister }))
+    status(run(rt, ServicePage { lister }))
 }
