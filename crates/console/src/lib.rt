@@ -95,6 +95,15 @@ pub fn fail(rt: &HostRuntime, line: &[u8]) -> u32
 #[derive(Clone, Copy)]
 pub struct Failed;
 
+// Where an answer on standard error fails there is no place to tell it, and the status alone says so.
+impl From<Cut> for Failed {
+    ghost from_gives = { λ _ e. Unit {0} };
+
+    fn from(_cut: Cut) -> Failed {
+        Failed
+    }
+}
+
 // A program that reads standard input and writes standard output: what it keeps from read to read, and what it writes,
 // out of a page that it is lent, of which nothing is written then.
 pub trait Filter<const N: usize>: Copy {
@@ -116,55 +125,37 @@ pub trait Filter<const N: usize>: Copy {
 
     // What the end of the input adds.
     fn end(&mut self, rt: &HostRuntime, page: &mut Page<N>) -> Result<(), Failed>;
-}
 
-// Tells an error, behind the program's name.
-fn tell(rt: &HostRuntime, name: &[u8], what: &[u8]) -> Failed {
-    fail(rt, name);
-    fail(rt, what);
-    Failed
-}
-
-// Writes what the page has to standard output, after which nothing of it is written.
-pub fn write_out<const N: usize>(
-    rt: &HostRuntime,
-    name: &[u8],
-    page: &mut Page<N>,
-) -> Result<(), Failed>
-    ensures { page.new.used ≡ 0 }
-{
-    let outcome = write(rt, page).map_err(|_| tell(rt, name, b": standard output takes no more\n"));
-    page.clear();
-    outcome
-}
-
-// Writes an answer to standard error. If that fails there is no place to tell it, and the status alone says so.
-pub fn write_answer<const N: usize>(rt: &HostRuntime, page: &Page<N>) -> Result<(), Failed> {
-    write_error(rt, page).map_err(|_| Failed)
-}
-
-// Runs a program on an input of any length, which is read in parts that fit the input's buffer. A proved loop has to
-// end, so the reads are counted, up to a number that no input uses up. Nothing is answered for what could not be read:
-// the input did not end.
-pub fn run<const N: usize, F: Filter<N>>(
-    rt: &HostRuntime,
-    mut filter: F,
-    input: &mut [u8],
-    page: &mut Page<N>,
-) -> Result<(), Failed> {
-    filter.begin(rt, page)?;
-    for _ in 0..u64::MAX {
-        let n = read(rt, input).map_err(|_| tell(
-            rt,
-            F::NAME,
-            b": standard input can't be read\n",
-        ))?;
-        if n == 0 {
-            return filter.end(rt, page);
-        }
-        if filter.take(rt, page, &input[..n])?.is_break() {
-            return Ok(());
-        }
+    // Tells an error, behind the program's name.
+    fn tell(&self, rt: &HostRuntime, what: &[u8]) -> Failed {
+        fail(rt, Self::NAME);
+        fail(rt, what);
+        Failed
     }
-    Err(Failed)
+
+    // Writes what the page has to standard output, after which nothing of it is written.
+    fn write_out(&self, rt: &HostRuntime, page: &mut Page<N>) -> Result<(), Failed> {
+        let outcome = write(rt, page);
+        page.clear();
+        outcome.map_err(|_| self.tell(rt, b": standard output takes no more\n"))
+    }
+
+    // Runs the program on an input of any length, which is read in parts that fit the input's buffer. A proved loop has
+    // to end, so the reads are counted, up to a number that no input uses up. Nothing is answered for what could not be
+    // read: the input did not end.
+    fn run(mut self, rt: &HostRuntime, input: &mut [u8], page: &mut Page<N>) -> Result<(), Failed> {
+        self.begin(rt, page)?;
+        for _ in 0..u64::MAX {
+            let Ok(n) = read(rt, input) else {
+                return Err(self.tell(rt, b": standard input can't be read\n"));
+            };
+            if n == 0 {
+                return self.end(rt, page);
+            }
+            if self.take(rt, page, &input[..n])?.is_break() {
+                return Ok(());
+            }
+        }
+        Err(Failed)
+    }
 }

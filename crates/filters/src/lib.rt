@@ -6,7 +6,7 @@
 
 ghost use Rattle.std.specs.Prelude.{◌≤◌};
 
-use console::{Failed, Filter, write_answer, write_out};
+use console::{Failed, Filter};
 use fields::Line;
 use listed::Lister;
 use log_lines::Reading;
@@ -21,7 +21,7 @@ const PAGE: usize = 131072;
 fn run<F: Filter<PAGE>>(rt: &HostRuntime, filter: F) -> Result<(), Failed> {
     let mut input = [0u8; 1024];
     let mut page = Page::new();
-    console::run(rt, filter, &mut input, &mut page)
+    filter.run(rt, &mut input, &mut page)
 }
 
 // The exit status: 0, or 1 if the program failed.
@@ -46,7 +46,7 @@ impl Filter<PAGE> for Listing {
 
     fn begin(&mut self, rt: &HostRuntime, page: &mut Page<PAGE>) -> Result<(), Failed> {
         listed::put_heading(page);
-        write_out(rt, Self::NAME, page)
+        self.write_out(rt, page)
     }
 
     // An input whose start was refused is over.
@@ -57,7 +57,7 @@ impl Filter<PAGE> for Listing {
         bytes: &[u8],
     ) -> Result<ControlFlow<()>, Failed> {
         self.lister = listed::all(self.lister, page, bytes);
-        write_out(rt, Self::NAME, page)?;
+        self.write_out(rt, page)?;
         if listed::is_refused(self.lister.awaits) {
             return Ok(ControlFlow::Break(()));
         }
@@ -66,7 +66,7 @@ impl Filter<PAGE> for Listing {
 
     fn end(&mut self, rt: &HostRuntime, page: &mut Page<PAGE>) -> Result<(), Failed> {
         listed::end(self.lister, page);
-        write_out(rt, Self::NAME, page)
+        self.write_out(rt, page)
     }
 }
 
@@ -94,13 +94,13 @@ impl Filter<PAGE> for Pitches {
         bytes: &[u8],
     ) -> Result<ControlFlow<()>, Failed> {
         self.line = pitch_lines::all(self.line, page, bytes);
-        write_out(rt, Self::NAME, page)?;
+        self.write_out(rt, page)?;
         Ok(ControlFlow::Continue(()))
     }
 
     fn end(&mut self, rt: &HostRuntime, page: &mut Page<PAGE>) -> Result<(), Failed> {
         pitch_lines::end(self.line, page);
-        write_out(rt, Self::NAME, page)
+        self.write_out(rt, page)
     }
 }
 
@@ -130,11 +130,12 @@ impl HardestSong {
         n: usize,
     ) -> Result<(), Failed> {
         let answer = song_lines::put_song(page, polyphony, n);
-        write_out(rt, Self::NAME, page)?;
+        self.write_out(rt, page)?;
         self.refused |= answer.is_err();
         let mut line = Page::<16>::new();
         song_lines::put_answer(&mut line, answer);
-        write_answer(rt, &line)
+        console::write_error(rt, &line)?;
+        Ok(())
     }
 
     fn answer(
@@ -149,7 +150,8 @@ impl HardestSong {
                 self.refused = true;
                 let mut line = Page::<16>::new();
                 song_lines::put_malformed(&mut line);
-                write_answer(rt, &line)
+                console::write_error(rt, &line)?;
+                Ok(())
             }
             Request::Song(polyphony, n) => self.give_song(rt, page, polyphony, n),
         }
@@ -225,10 +227,10 @@ impl Filter<PAGE> for Arrange {
     fn end(&mut self, rt: &HostRuntime, page: &mut Page<PAGE>) -> Result<(), Failed> {
         let w = log_lines::end(self.reading);
         log_lines::put_message(page, w);
-        write_out(rt, Self::NAME, page)?;
+        self.write_out(rt, page)?;
         let mut line = Page::<160>::new();
         log_lines::put_written(&mut line, w);
-        write_answer(rt, &line)?;
+        console::write_error(rt, &line)?;
         if w.number != 0 {
             return Err(Failed);
         }
@@ -273,7 +275,7 @@ impl Filter<PAGE> for ServicePage {
     fn end(&mut self, rt: &HostRuntime, page: &mut Page<PAGE>) -> Result<(), Failed> {
         let lister = page_lines::end(self.lister);
         page_lines::put_answer(page, lister);
-        write_out(rt, Self::NAME, page)?;
+        self.write_out(rt, page)?;
         if listed::is_refused(lister.awaits) {
             return Err(Failed);
         }

@@ -47,7 +47,7 @@ use crate::pages::put_service_asked;
 use crate::songs::put_song_asked;
 use crate::sounds::{put_levels_asked, put_pitch_asked};
 use arranging::Run;
-use console::{Failed, Filter, write_out};
+use console::{Failed, Filter};
 use device::Device;
 use events::Event;
 use std::ops::ControlFlow;
@@ -93,7 +93,7 @@ impl Bench {
     }
 
     // A command.
-    fn run(&mut self, page: &mut Page) {
+    fn run_command(&mut self, page: &mut Page) {
         let line = self.line;
         match (line.command, line.numbers()) {
             (b'P', &[polyphony, id]) => self.start(page, polyphony, id),
@@ -126,7 +126,7 @@ impl Bench {
     fn end_line(&mut self, page: &mut Page) {
         match self.line.awaits {
             Awaits::Command | Awaits::Comment => {}
-            Awaits::Gap => self.run(page),
+            Awaits::Gap => self.run_command(page),
             _ => put_malformed(page),
         }
         self.line = Line::new();
@@ -155,7 +155,7 @@ impl Filter<PAGE> for Bench {
         for b in bytes {
             self.read(page, *b);
         }
-        write_out(rt, Self::NAME, page)?;
+        self.write_out(rt, page)?;
         Ok(ControlFlow::Continue(()))
     }
 
@@ -164,12 +164,12 @@ impl Filter<PAGE> for Bench {
         if !matches!(self.line.awaits, Awaits::Command) {
             self.read(page, b'\n');
         }
-        write_out(rt, Self::NAME, page)
+        self.write_out(rt, page)
     }
 }
 
 fn main(rt: HostRuntime) {
     let mut input = [0u8; 256];
     let mut page = Page::new();
-    let _ = console::run(&rt, Bench::new(), &mut input, &mut page);
+    let _ = Bench::new().run(&rt, &mut input, &mut page);
 }
