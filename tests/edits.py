@@ -52,7 +52,7 @@ def heads(source):
     """Where each function of a source begins, and its path, as proofs/ has it."""
     owner, at, found = "", 0, []
     for line in source.split("\n"):
-        head = re.match(r"impl(?:<[^>]*>)? (\w+)(?:<\w+>)? \{$", line)
+        head = re.match(r"(?:impl|(?:pub )?trait)(?:<[^>]*>)? (\w+)(?:<[^>]*>)?(?:: \w+)? \{$", line)
         owner = head.group(1) + "/" if head else owner
         head = re.match(r'(\s*)(?:pub(?:\(\w+\))? )?(?:const )?(?:extern "C" )?fn (\w+)', line)
         if head:

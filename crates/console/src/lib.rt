@@ -134,7 +134,9 @@ pub trait Filter<const N: usize>: Copy {
     }
 
     // Writes what the page has to standard output, after which nothing of it is written.
-    fn write_out(&self, rt: &HostRuntime, page: &mut Page<N>) -> Result<(), Failed> {
+    fn write_out(&self, rt: &HostRuntime, page: &mut Page<N>) -> Result<(), Failed>
+        ensures { page.new.used ≡ 0 }
+    {
         let outcome = write(rt, page);
         page.clear();
         outcome.map_err(|_| self.tell(rt, b": standard output takes no more\n"))
