@@ -35,7 +35,7 @@ started p id =
     fresh_output answer.Done p id
 
 -- what a byte completed; p is the parser that it found. R4.12: a channel message is played; R4.13: nothing completed
--- is answered none; R4.9, R4.10: numbers 4 and 3
+-- is answered none; R4.9, R4.10, R8.3, R8.4: a cut SysEx and a stray byte are refused
 unfoldable pub heard : Instrument → Parser → Completed → Reply
 heard i p Nothing = replied answer.Nothing i
 heard i p Stray = replied (answer.Number refusal.Stray) i

@@ -1,5 +1,6 @@
 // What the listing program lists (R16.1 to R16.7): P, the own ID, then MIDI bytes, each of which may put a line into
-// a page, and what the end of the input adds. Reading and writing are in crate `filters`. Assumes nothing.
+// a page, and what the end of the input adds. Reading and writing are in crate `console`. Assumes
+// nothing.
 #![tactic(auto)]
 
 ghost use Rattle.std.specs.Prelude.{◌+◌, ◌*◌, ◌≤◌, ◌≡◌, ◌++◌, length};

@@ -8,4 +8,3 @@ pub mod Totals
 pub mod Search
 pub mod Sweep
 pub mod Tests
-pub mod Words

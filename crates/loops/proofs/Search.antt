@@ -10,7 +10,7 @@ use Prim.Native.Nat.{ℕ, ◌+◌, ◌≤◌, ◌<◌}
 use native.Mathlib.Numerals.{add-one}
 use native.Mathlib.Omega.{arith}
 use lib.ListN.{length, take, drop, get_or, drop_of_length-le}
-use lib.Seq.{drop-cons, take-suc, get_or-take, length-take-le}
+use lib.Seq.{drop-cons, take-suc}
 use Rattle.loops.specs.Passes.{filter_by, first_of, count}
 
 module _ {A : Type 0} (p : A → Bool) where
@@ -115,22 +115,3 @@ first-among p q h (x ∷ l) = go (q x) (p x) refl refl (first-among p q h l)
     go true false e f ih = rw f ih
     go false true e f ih = absurd (false≢true (sym e ∙ h x f))
     go false false e f ih = ih
-
--- the same search among the first n elements of an array
-module _ {A : Type 0} (p : A → Bool) (d : A) (l : List A) (n : ℕ) (k : n ≤ length l) where
-  part : length (take n l) ≡ n
-  part = length-take-le n l k
-
-  pub part_yes : (i : ℕ) (r : Option A) → i < n → first_of p (drop i (take n l)) ≡ r
-      → p (get_or l i d) ≡ true → some (get_or l i d) ≡ r
-  part_yes i r h e t =
-      let s = part in
-      let g = get_or-take n l i d h in
-      rw g at (first_yes p d (take n l) i r (omega arith) e (rw g t))
-
-  pub part_no : (i : ℕ) (r : Option A) → i < n → first_of p (drop i (take n l)) ≡ r
-      → p (get_or l i d) ≡ false → first_of p (drop (i + 1) (take n l)) ≡ r
-  part_no i r h e t = let s = part in first_no p d (take n l) i r (omega arith) e (rw (get_or-take n l i d h) t)
-
-  pub part_end : (i : ℕ) (r : Option A) → n ≤ i → first_of p (drop i (take n l)) ≡ r → none ≡ r
-  part_end i r h e = let s = part in first_end p (take n l) i r (omega arith) e

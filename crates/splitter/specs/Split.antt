@@ -3,7 +3,6 @@
 -- come since, and these bytes; of a SysEx the first 37, counted to 37, since no message that counts is longer than 36.
 use Rattle.std.specs.Prelude.{ℕ, ◌+◌, Bool, ◌&&◌, ◌||◌, not, eqb, leb, ltb, if◌then◌else◌}
 use Rattle.std.specs.Prelude.{List, get_or, set, take, replicate}
-use Rattle.std.proofs.Math.Option.{Option, some, none}
 use Rattle.splitter.specs.declared.Parser.{Parser}
 use Rattle.splitter.specs.declared.Completed.{Completed}
 use Rattle.splitter.specs.declared.Completed.TheVariants.{Nothing, Stray, Cut, Message, SysEx}
@@ -75,11 +74,3 @@ status_byte p b =
 -- a byte
 unfoldable pub split : Parser → ℕ → Split
 split p b = if ltb b 0x80 then data_byte p b else status_byte p b
-
--- R8.3, R8.4: the number of what a byte completed, where it has one
-abbrev pub number_of : Completed → Option ℕ
-number_of Nothing = none
-number_of Stray = some 3
-number_of Cut = some 4
-number_of (Message s a b) = none
-number_of SysEx = none

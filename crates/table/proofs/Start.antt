@@ -1,12 +1,13 @@
 -- The starting table, for every P: its entries are the sixteen channels in their order, each with the value P, and well
 -- formed. The order is that of a formula, computed over all sixteen places.
 -- Assumes nothing.
-use mathlib.Core.Path.{◌≡◌, refl}
-use mathlib.Core.List.{map}
-use Prim.Native.Nat.{ℕ}
+use mathlib.Core.Path.{◌≡◌, refl, sym, ap, ◌∙◌}
+use mathlib.Core.List.{List, map}
+use Prim.Native.Nat.{ℕ, ◌<◌}
 use borrow.Author.Rules.{rules}
-use lib.ListN.{length}
+use lib.ListN.{length, get_or}
 use Rattle.loops.specs.Passes.{up_to, padded}
+use Rattle.loops.proofs.Fill.{at-up_to}
 use Rattle.table.specs.Laws.{WellFormed}
 use Rattle.table.specs.Table.{entry, entries_of, table_of, start_channel, start_order, start_table, listed}
 
@@ -14,6 +15,10 @@ use Rattle.table.specs.Table.{entry, entries_of, table_of, start_channel, start_
 pub order_by_formula : start_order ≡ up_to start_channel 16
 unfolding up_to
 order_by_formula = refl
+
+-- the channel at one of the sixteen places
+pub start_channel_lem : (i : ℕ) → i < 16 → start_channel i ≡ get_or start_order i 0
+start_channel_lem i h = sym (ap (λ (l : List ℕ). get_or l i 0) order_by_formula ∙ at-up_to start_channel 0 16 i h)
 
 pub start_entries : (p : ℕ) → entries_of (start_table p) ≡ map (λ (c : ℕ). entry c p) start_order
 unfolding start_table table_of padded
