@@ -9,7 +9,6 @@ ghost use Rattle.console.specs.Console.{Reads, Writes};
 
 use std::io::{Read, Write};
 use std::ops::ControlFlow;
-use text::Page;
 
 // So many calls in a row that move nothing are an error. A signal interrupts a call once and no call a hundred times in
 // a row; an input that has no byte yet and does not wait for one (O_NONBLOCK) is an error that is said.
@@ -67,18 +66,26 @@ fn write_all<W: Write>(output: &mut W, bytes: &[u8]) -> Result<(), Cut>
     Ok(())
 }
 
-// Writes what the page has to standard output. What reaches the other end no contract can say.
-pub fn write<const N: usize>(rt: &HostRuntime, page: &Page<N>) -> Result<(), Cut>
-    ensures { Writes (min page.now.used (length page.now.bytes)) result }
+// Writes the first `used` bytes of the page, or all of it if that is more than it has. What reaches the other end no
+// contract can say.
+fn write_first<W: Write>(output: &mut W, page: &[u8], used: usize) -> Result<(), Cut>
+    ensures { Writes (min used (length page.now)) result }
 {
-    write_all(&mut rt.stdout(), page.written())
+    write_all(output, page.get(..used).unwrap_or(page))
+}
+
+// That to standard output.
+pub fn write(rt: &HostRuntime, page: &[u8], used: usize) -> Result<(), Cut>
+    ensures { Writes (min used (length page.now)) result }
+{
+    write_first(&mut rt.stdout(), page, used)
 }
 
 // That to standard error.
-pub fn write_error<const N: usize>(rt: &HostRuntime, page: &Page<N>) -> Result<(), Cut>
-    ensures { Writes (min page.now.used (length page.now.bytes)) result }
+pub fn write_error(rt: &HostRuntime, page: &[u8], used: usize) -> Result<(), Cut>
+    ensures { Writes (min used (length page.now)) result }
 {
-    write_all(&mut rt.stderr(), page.written())
+    write_first(&mut rt.stderr(), page, used)
 }
 
 // Writes a line to standard error, if that takes it, and answers the status of a program that failed.
@@ -105,13 +112,13 @@ impl From<Cut> for Failed {
 }
 
 // A program that reads standard input and writes standard output: what it keeps from read to read, and what it writes,
-// out of a page that it is lent, of which nothing is written then.
-pub trait Filter<const N: usize>: Copy {
+// out of a page that it is lent.
+pub trait Filter: Copy {
     // Its name, which stands before an error.
     const NAME: &'static [u8];
 
     // Before the first read.
-    fn begin(&mut self, rt: &HostRuntime, page: &mut Page<N>) -> Result<(), Failed> {
+    fn begin(&mut self, rt: &HostRuntime, page: &mut [u8]) -> Result<(), Failed> {
         Ok(())
     }
 
@@ -119,12 +126,12 @@ pub trait Filter<const N: usize>: Copy {
     fn take(
         &mut self,
         rt: &HostRuntime,
-        page: &mut Page<N>,
+        page: &mut [u8],
         bytes: &[u8],
     ) -> Result<ControlFlow<()>, Failed>;
 
     // What the end of the input adds.
-    fn end(&mut self, rt: &HostRuntime, page: &mut Page<N>) -> Result<(), Failed>;
+    fn end(&mut self, rt: &HostRuntime, page: &mut [u8]) -> Result<(), Failed>;
 
     // Tells an error, behind the program's name.
     fn tell(&self, rt: &HostRuntime, what: &[u8]) -> Failed {
@@ -133,19 +140,15 @@ pub trait Filter<const N: usize>: Copy {
         Failed
     }
 
-    // Writes what the page has to standard output, after which nothing of it is written.
-    fn write_out(&self, rt: &HostRuntime, page: &mut Page<N>) -> Result<(), Failed>
-        ensures { page.new.used ≡ 0 }
-    {
-        let outcome = write(rt, page);
-        page.clear();
-        outcome.map_err(|_| self.tell(rt, b": standard output takes no more\n"))
+    // Writes the first `used` bytes of the page to standard output.
+    fn write_out(&self, rt: &HostRuntime, page: &[u8], used: usize) -> Result<(), Failed> {
+        write(rt, page, used).map_err(|_| self.tell(rt, b": standard output takes no more\n"))
     }
 
     // Runs the program on an input of any length, which is read in parts that fit the input's buffer. A proved loop has
     // to end, so the reads are counted, up to a number that no input uses up. Nothing is answered for what could not be
     // read: the input did not end.
-    fn run(mut self, rt: &HostRuntime, input: &mut [u8], page: &mut Page<N>) -> Result<(), Failed> {
+    fn run(mut self, rt: &HostRuntime, input: &mut [u8], page: &mut [u8]) -> Result<(), Failed> {
         self.begin(rt, page)?;
         for _ in 0..u64::MAX {
             let Ok(n) = read(rt, input) else {

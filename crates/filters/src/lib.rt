@@ -12,15 +12,12 @@ use listed::Lister;
 use log_lines::Reading;
 use song_lines::Request;
 use std::ops::ControlFlow;
-use text::Page;
 
 // A byte lists no more than 128 bytes, and is answered by no more than 16, so the page has room for what a read of 1,024
 // calls for. It has room for the longest song too.
-const PAGE: usize = 131072;
-
-fn run<F: Filter<PAGE>>(rt: &HostRuntime, filter: F) -> Result<(), Failed> {
+fn run<F: Filter>(rt: &HostRuntime, filter: F) -> Result<(), Failed> {
     let mut input = [0u8; 1024];
-    let mut page = Page::new();
+    let mut page = [0u8; 131072];
     filter.run(rt, &mut input, &mut page)
 }
 
@@ -41,32 +38,33 @@ struct Listing {
     lister: Lister,
 }
 
-impl Filter<PAGE> for Listing {
+impl Filter for Listing {
     const NAME: &'static [u8] = b"listing";
 
-    fn begin(&mut self, rt: &HostRuntime, page: &mut Page<PAGE>) -> Result<(), Failed> {
-        listed::put_heading(page);
-        self.write_out(rt, page)
+    fn begin(&mut self, rt: &HostRuntime, page: &mut [u8]) -> Result<(), Failed> {
+        let used = listed::put_heading(page);
+        self.write_out(rt, page, used)
     }
 
     // An input whose start was refused is over.
     fn take(
         &mut self,
         rt: &HostRuntime,
-        page: &mut Page<PAGE>,
+        page: &mut [u8],
         bytes: &[u8],
     ) -> Result<ControlFlow<()>, Failed> {
-        self.lister = listed::all(self.lister, page, bytes);
-        self.write_out(rt, page)?;
+        let s = listed::all(self.lister, page, bytes);
+        self.lister = s.lister;
+        self.write_out(rt, page, s.used)?;
         if listed::is_refused(self.lister.awaits) {
             return Ok(ControlFlow::Break(()));
         }
         Ok(ControlFlow::Continue(()))
     }
 
-    fn end(&mut self, rt: &HostRuntime, page: &mut Page<PAGE>) -> Result<(), Failed> {
-        listed::end(self.lister, page);
-        self.write_out(rt, page)
+    fn end(&mut self, rt: &HostRuntime, page: &mut [u8]) -> Result<(), Failed> {
+        let used = listed::end(self.lister, page);
+        self.write_out(rt, page, used)
     }
 }
 
@@ -84,23 +82,24 @@ struct Pitches {
     line: Line,
 }
 
-impl Filter<PAGE> for Pitches {
+impl Filter for Pitches {
     const NAME: &'static [u8] = b"pitches";
 
     fn take(
         &mut self,
         rt: &HostRuntime,
-        page: &mut Page<PAGE>,
+        page: &mut [u8],
         bytes: &[u8],
     ) -> Result<ControlFlow<()>, Failed> {
-        self.line = pitch_lines::all(self.line, page, bytes);
-        self.write_out(rt, page)?;
+        let s = pitch_lines::all(self.line, page, bytes);
+        self.line = s.line;
+        self.write_out(rt, page, s.used)?;
         Ok(ControlFlow::Continue(()))
     }
 
-    fn end(&mut self, rt: &HostRuntime, page: &mut Page<PAGE>) -> Result<(), Failed> {
-        pitch_lines::end(self.line, page);
-        self.write_out(rt, page)
+    fn end(&mut self, rt: &HostRuntime, page: &mut [u8]) -> Result<(), Failed> {
+        let used = pitch_lines::end(self.line, page);
+        self.write_out(rt, page, used)
     }
 }
 
@@ -125,32 +124,32 @@ impl HardestSong {
     fn give_song(
         &mut self,
         rt: &HostRuntime,
-        page: &mut Page<PAGE>,
+        page: &mut [u8],
         polyphony: u8,
         n: usize,
     ) -> Result<(), Failed> {
-        let answer = song_lines::put_song(page, polyphony, n);
-        self.write_out(rt, page)?;
-        self.refused |= answer.is_err();
-        let mut line = Page::<16>::new();
-        song_lines::put_answer(&mut line, answer);
-        console::write_error(rt, &line)?;
+        let w = song_lines::put_song(page, polyphony, n);
+        self.write_out(rt, page, w.used)?;
+        self.refused |= w.answer.is_err();
+        let mut line = [0u8; 16];
+        let used = song_lines::put_answer(&mut line, w.answer);
+        console::write_error(rt, &line, used)?;
         Ok(())
     }
 
     fn answer(
         &mut self,
         rt: &HostRuntime,
-        page: &mut Page<PAGE>,
+        page: &mut [u8],
         request: Request,
     ) -> Result<(), Failed> {
         match request {
             Request::Nothing => Ok(()),
             Request::Malformed => {
                 self.refused = true;
-                let mut line = Page::<16>::new();
-                song_lines::put_malformed(&mut line);
-                console::write_error(rt, &line)?;
+                let mut line = [0u8; 16];
+                let used = song_lines::put_malformed(&mut line);
+                console::write_error(rt, &line, used)?;
                 Ok(())
             }
             Request::Song(polyphony, n) => self.give_song(rt, page, polyphony, n),
@@ -158,14 +157,14 @@ impl HardestSong {
     }
 }
 
-impl Filter<PAGE> for HardestSong {
+impl Filter for HardestSong {
     const NAME: &'static [u8] = b"hardest_song";
 
     // Each request is answered as soon as its line has ended.
     fn take(
         &mut self,
         rt: &HostRuntime,
-        page: &mut Page<PAGE>,
+        page: &mut [u8],
         bytes: &[u8],
     ) -> Result<ControlFlow<()>, Failed> {
         for b in bytes {
@@ -177,7 +176,7 @@ impl Filter<PAGE> for HardestSong {
     }
 
     // A request that was refused, at any time, is told by the status.
-    fn end(&mut self, rt: &HostRuntime, page: &mut Page<PAGE>) -> Result<(), Failed> {
+    fn end(&mut self, rt: &HostRuntime, page: &mut [u8]) -> Result<(), Failed> {
         let request = song_lines::end(self.line);
         self.answer(rt, page, request)?;
         if self.refused {
@@ -205,14 +204,14 @@ struct Arrange {
     reading: Reading,
 }
 
-impl Filter<PAGE> for Arrange {
+impl Filter for Arrange {
     const NAME: &'static [u8] = b"arrange";
 
     // Where a number has fallen the answer is known, whatever comes behind it.
     fn take(
         &mut self,
         rt: &HostRuntime,
-        page: &mut Page<PAGE>,
+        page: &mut [u8],
         bytes: &[u8],
     ) -> Result<ControlFlow<()>, Failed> {
         self.reading = log_lines::all(self.reading, bytes);
@@ -224,13 +223,13 @@ impl Filter<PAGE> for Arrange {
     }
 
     // The message is written whole before its line says so, and a number is told by the status.
-    fn end(&mut self, rt: &HostRuntime, page: &mut Page<PAGE>) -> Result<(), Failed> {
+    fn end(&mut self, rt: &HostRuntime, page: &mut [u8]) -> Result<(), Failed> {
         let w = log_lines::end(self.reading);
-        log_lines::put_message(page, w);
-        self.write_out(rt, page)?;
-        let mut line = Page::<160>::new();
-        log_lines::put_written(&mut line, w);
-        console::write_error(rt, &line)?;
+        let used = log_lines::put_message(page, w);
+        self.write_out(rt, page, used)?;
+        let mut line = [0u8; 160];
+        let length = log_lines::put_written(&mut line, 0, w);
+        console::write_error(rt, &line, length)?;
         if w.number != 0 {
             return Err(Failed);
         }
@@ -249,18 +248,18 @@ pub fn arrange_status(rt: &HostRuntime) -> u32
 // ---- the program that writes the service page
 
 #[derive(Clone, Copy)]
-struct ServicePage {
+struct Page {
     lister: Lister,
 }
 
-impl Filter<PAGE> for ServicePage {
+impl Filter for Page {
     const NAME: &'static [u8] = b"page";
 
     // Nothing is written before the input's end, unless its start was refused.
     fn take(
         &mut self,
         rt: &HostRuntime,
-        page: &mut Page<PAGE>,
+        page: &mut [u8],
         bytes: &[u8],
     ) -> Result<ControlFlow<()>, Failed> {
         self.lister = page_lines::all(self.lister, bytes);
@@ -272,10 +271,10 @@ impl Filter<PAGE> for ServicePage {
     }
 
     // A refused start is told by the status.
-    fn end(&mut self, rt: &HostRuntime, page: &mut Page<PAGE>) -> Result<(), Failed> {
+    fn end(&mut self, rt: &HostRuntime, page: &mut [u8]) -> Result<(), Failed> {
         let lister = page_lines::end(self.lister);
-        page_lines::put_answer(page, lister);
-        self.write_out(rt, page)?;
+        let used = page_lines::put_answer(page, lister);
+        self.write_out(rt, page, used)?;
         if listed::is_refused(lister.awaits) {
             return Err(Failed);
         }
@@ -288,5 +287,5 @@ pub fn page_status(rt: &HostRuntime) -> u32
     ensures { result ≤ 1 }
 {
     let lister = listed::begin();
-    status(run(rt, ServicePage { lister }))
+    status(run(rt, Page { lister }))
 }

@@ -2,83 +2,83 @@
 #![tactic(auto)]
 
 ghost use Rattle.std.specs.Prelude.{◌++◌};
-ghost use Rattle.text.specs.Text.{Puts};
+ghost use Rattle.text.specs.Text.{Put};
 ghost use Rattle.lines.specs.Lines.{field, offset_field, dashes, was, note_fields, no_note_fields, line_of};
 
 use allocation::Was;
 use playing::Answer;
-use text::Page;
+use text::{put, put_number};
 
 // A comma and a number.
-pub fn put_field<const N: usize>(page: &mut Page<N>, n: u8)
-    ensures { Puts page.old (field n) page.new }
+pub fn put_field(page: &mut [u8], at: usize, n: u8) -> usize
+    ensures { Put page.old at (field n) result page.new }
 {
-    page.put(b",");
-    page.put_number(u64::from(n));
+    let k = put(page, at, b",");
+    put_number(page, k, u64::from(n))
 }
 
 // A line's first field: the offset of the byte that completed what the line tells, 0 for the first MIDI byte; a start
 // and a report have none.
-fn put_offset<const N: usize>(page: &mut Page<N>, o: Option<u64>)
-    ensures { Puts page.old (offset_field o) page.new }
+fn put_offset(page: &mut [u8], at: usize, o: Option<u64>) -> usize
+    ensures { Put page.old at (offset_field o) result page.new }
 {
     match o {
-        Some(n) => page.put_number(n),
-        None => page.put(b"-"),
+        Some(n) => put_number(page, at, n),
+        None => put(page, at, b"-"),
     }
 }
 
-fn put_was<const N: usize>(page: &mut Page<N>, w: Was)
-    ensures { Puts page.old (was w ++ dashes 0) page.new }
+fn put_was(page: &mut [u8], at: usize, w: Was) -> usize
+    ensures { Put page.old at (was w ++ dashes 0) result page.new }
 {
     match w {
-        Was::Idle => page.put(b",idle\n"),
-        Was::Release => page.put(b",release\n"),
-        Was::Stolen => page.put(b",stolen\n"),
+        Was::Idle => put(page, at, b",idle\n"),
+        Was::Release => put(page, at, b",release\n"),
+        Was::Stolen => put(page, at, b",stolen\n"),
     }
 }
 
-fn put_note<const N: usize>(page: &mut Page<N>, channel: u8, key: u8, g: u8, w: Was)
-    ensures { Puts page.old (note_fields channel key g w) page.new }
+fn put_note(page: &mut [u8], at: usize, channel: u8, key: u8, g: u8, w: Was) -> usize
+    ensures { Put page.old at (note_fields channel key g w) result page.new }
 {
-    page.put(b",note");
-    put_field(page, channel);
-    put_field(page, key);
-    put_field(page, g);
-    put_was(page, w);
+    let a = put(page, at, b",note");
+    let b = put_field(page, a, channel);
+    let c = put_field(page, b, key);
+    let d = put_field(page, c, g);
+    put_was(page, d, w)
 }
 
-fn put_no_note<const N: usize>(page: &mut Page<N>, number: u8, channel: u8, key: u8)
-    ensures { Puts page.old (no_note_fields number channel key) page.new }
+fn put_no_note(page: &mut [u8], at: usize, number: u8, channel: u8, key: u8) -> usize
+    ensures { Put page.old at (no_note_fields number channel key) result page.new }
 {
-    put_field(page, number);
-    put_field(page, channel);
-    put_field(page, key);
-    page.put(b",-,-\n");
+    let a = put_field(page, at, number);
+    let b = put_field(page, a, channel);
+    let c = put_field(page, b, key);
+    put(page, c, b",-,-\n")
 }
 
 // The line of an answer; none for an answer that says nothing.
-pub fn put_line<const N: usize>(page: &mut Page<N>, o: Option<u64>, a: Answer)
-    ensures { Puts page.old (line_of o a) page.new }
+pub fn put_line(page: &mut [u8], at: usize, o: Option<u64>, a: Answer) -> usize
+    ensures { Put page.old at (line_of o a) result page.new }
 {
     match a {
-        Answer::Nothing => {}
+        Answer::Nothing => at,
         Answer::Done => {
-            put_offset(page, o);
-            page.put(b",done,-,-,-,-\n");
+            let k = put_offset(page, at, o);
+            put(page, k, b",done,-,-,-,-\n")
         }
         Answer::Note(channel, key, g, w) => {
-            put_offset(page, o);
-            put_note(page, channel, key, g, w);
+            let k = put_offset(page, at, o);
+            put_note(page, k, channel, key, g, w)
         }
         Answer::NoNote(refusal, channel, key) => {
-            put_offset(page, o);
-            put_no_note(page, refusal.number(), channel, key);
+            let k = put_offset(page, at, o);
+            put_no_note(page, k, refusal.number(), channel, key)
         }
         Answer::Number(refusal) => {
-            put_offset(page, o);
-            put_field(page, refusal.number());
-            page.put(b",-,-,-,-\n");
+            let k = put_offset(page, at, o);
+            let m = put_field(page, k, refusal.number());
+            put(page, m, b",-,-,-,-\n")
         }
     }
 }

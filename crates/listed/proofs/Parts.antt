@@ -9,10 +9,9 @@ use mathlib.Core.List.{List, [], ◌∷◌, ◌++◌, append-nil, append_assoc}
 use native.Mathlib.Numerals.{add-one}
 use native.Mathlib.Omega.{arith}
 use lib.ListN.{length, take, get_or, length-append}
-use lib.Seq.{take-suc, take_all}
-use Rattle.text.specs.declared.Page.{Page}
-use Rattle.text.specs.Text.{Puts}
-use Rattle.text.proofs.Joined.{joined}
+use lib.Seq.{take-suc, take_all, take_at}
+use Rattle.text.specs.Text.{Put}
+use Rattle.text.proofs.Joined.{joined, whole}
 use Rattle.lines.specs.Lines.{line_of}
 use Rattle.lines.proofs.Length.{line-length}
 use Rattle.device.specs.declared.Output.{Output}
@@ -47,15 +46,14 @@ module _ (l : Lister) (bs : List ℕ) (i : ℕ) where
       rw (add-one i, take-suc bs i 0 h)
       (listed_parts l (take i bs) (get_or bs i 0 ∷ []) ∙ rw (append-nil (line (after_all l (take i bs)) (get_or bs i 0))))
 
-  module _ (N : ℕ) (p q : Page N) where
-    pub one_more : (k r : Lister) (s : Page N) → i < length bs → k ≡ after_all l (take i bs)
-        → Puts p (listed_by l (take i bs)) q → Lists q (line k (get_or bs i 0)) (after k (get_or bs i 0)) r s
-        → (r ≡ after_all l (take (i + 1) bs)) × Puts p (listed_by l (take (i + 1) bs)) s
-    one_more k r s h e a b = (b.kept ∙ rw (e, next-after h), rw (next-listed h) (joined a (rw e at b.put)))
+  pub one_more : (k r : Lister) {p q s : List ℕ} {used next : ℕ} → i < length bs → k ≡ after_all l (take i bs)
+      → Put p 0 (listed_by l (take i bs)) used q → Lists q used (line k (get_or bs i 0)) (after k (get_or bs i 0)) r next s
+      → (r ≡ after_all l (take (i + 1) bs)) × Put p 0 (listed_by l (take (i + 1) bs)) next s
+  one_more k r h e a b = (b.kept ∙ rw (e, next-after h), rw (next-listed h) (joined a (rw e at b.put)))
 
-    pub no_more : (k : Lister) → length bs ≤ i → k ≡ after_all l (take i bs)
-        → Puts p (listed_by l (take i bs)) q → Lists p (listed_by l bs) (after_all l bs) k q
-    no_more k h e a = record { kept = rw (take_all i bs h) at e; put = rw (take_all i bs h) at a }
+  pub no_more : (k : Lister) {p q : List ℕ} {used : ℕ} → length bs ≤ i → k ≡ after_all l (take i bs)
+      → Put p 0 (listed_by l (take i bs)) used q → Lists p 0 (listed_by l bs) (after_all l bs) k used q
+  no_more k h e a = record { kept = rw (take_all i bs h) at e; put = rw (take_all i bs h) at a }
 
 start_length : (o : Output) → length (start_line o) ≤ 128
 unfolding start_line
@@ -86,3 +84,11 @@ bytes_length l (b ∷ bs) =
     let h = byte_length l b in
     let t = bytes_length (after l b) bs in
     rw (length-append (line l b) (listed_by (after l b) bs)) (omega arith)
+
+pub stands_whole : (l : Lister) (bs : List ℕ) (used : ℕ) {p q : List ℕ}
+    → Put p 0 (listed_by l bs) used q → 128 * length bs ≤ length p → take used q ≡ listed_by l bs
+stands_whole l bs used {p} {q} a h =
+    let b = bytes_length l bs in
+    let w = whole {p = p} {q = q} {t = listed_by l bs} {at = 0} {k = used} (omega arith) a in
+    let n : length (listed_by l bs) ≡ used = omega (arith, w.0) in
+    rw w.1 (take_at (listed_by l bs) _ used n)

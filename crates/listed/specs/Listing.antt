@@ -1,7 +1,6 @@
 -- What an input lists, byte by byte (section 16 of docs/RULES.md).
 use Rattle.std.specs.Prelude.{ℕ, ◌+◌, ◌≡◌, Bool, true, false, List, [], ◌∷◌, ◌++◌, ltb, if◌then◌else◌, Some, None}
-use Rattle.text.specs.declared.Page.{Page}
-use Rattle.text.specs.Text.{Puts}
+use Rattle.text.specs.Text.{Put}
 use Rattle.lines.specs.Lines.{line_of}
 use Rattle.playing.specs.declared.Answer.{Answer}
 use Rattle.playing.specs.declared.Answer.TheVariants as answer
@@ -11,10 +10,10 @@ use Rattle.listed.specs.declared.Awaits.{Awaits}
 use Rattle.listed.specs.declared.Awaits.TheVariants.{Polyphony, Id, Midi, Refused}
 use Rattle.listed.specs.declared.Lister.{Lister}
 
--- a text listed in a page: what is kept, and the page behind it
-pub record Lists {N : ℕ} (old : Page N) (text : List ℕ) (l r : Lister) (new : Page N) : Type 0 where
+-- a text listed at a place of a page: what is kept, and the place and the page behind it
+pub record Lists (old : List ℕ) (at : ℕ) (text : List ℕ) (l r : Lister) (next : ℕ) (new : List ℕ) : Type 0 where
   pub kept : r ≡ l
-  pub put : Puts old text new
+  pub put : Put old at text next new
 
 -- R16.2: `at,what,channel,key,generator,was` and 0AH
 abbrev pub heading : List ℕ

@@ -1,10 +1,9 @@
 // What the listing program lists (R16.1 to R16.7): P, the own ID, then MIDI bytes, each of which may put a line into
-// a page, and what the end of the input adds. Reading and writing are in crate `console`. Assumes
-// nothing.
+// a page, and what the end of the input adds. Reading and writing are in crate `filters`. Assumes nothing.
 #![tactic(auto)]
 
-ghost use Rattle.std.specs.Prelude.{◌+◌, ◌*◌, ◌≤◌, ◌≡◌, ◌++◌, length};
-ghost use Rattle.text.specs.Text.{Puts, written};
+ghost use Rattle.std.specs.Prelude.{◌*◌, ◌≤◌, ◌≡◌, length, take};
+ghost use Rattle.text.specs.Text.{Put};
 ghost use Rattle.device.specs.Device.{started};
 ghost use Rattle.listed.specs.Listing.{Lists, heading, new_lister, behind_start, missing};
 ghost use Rattle.listed.specs.Listing.{is_refused, start_line, start_lister, midi_line};
@@ -13,7 +12,6 @@ ghost use Rattle.listed.specs.Listing.{after_midi, line, after, listed_by, after
 use device::Device;
 use playing::Answer;
 use refusals::Refusal;
-use text::Page;
 
 // Which byte comes next.
 #[derive(Clone, Copy)]
@@ -36,6 +34,13 @@ pub struct Lister {
     pub device: Device,
 }
 
+// What is kept after the bytes of a read, and the place in the page behind what they list.
+#[derive(Clone, Copy)]
+pub struct Listed {
+    pub lister: Lister,
+    pub used: usize,
+}
+
 // Before the first byte.
 #[tactic(auto, unfolding(crate::specs::Listing::new_lister))]
 pub fn begin() -> Lister
@@ -49,10 +54,10 @@ pub fn begin() -> Lister
 }
 
 // The first line.
-pub fn put_heading<const N: usize>(page: &mut Page<N>)
-    ensures { Puts page.old heading page.new }
+pub fn put_heading(page: &mut [u8]) -> usize
+    ensures { Put page.old 0 heading result page.new }
 {
-    page.put(b"at,what,channel,key,generator,was\n");
+    text::put(page, 0, b"at,what,channel,key,generator,was\n")
 }
 
 // What comes behind a start that is answered so: a start answers a number or *done*.
@@ -76,14 +81,14 @@ pub fn is_refused(a: Awaits) -> bool
 
 // The start: a refused one lists its number and takes no byte more.
 #[tactic(auto, using(text::proofs::Joined::nothing_put), unfolding(crate::specs::Listing::start_line, crate::specs::Listing::start_lister))]
-fn list_start<const N: usize>(page: &mut Page<N>, polyphony: u8, id: u8) -> Lister
-    ensures { Lists page.old (start_line (started polyphony id))
-        (start_lister (started polyphony id)) result page.new }
+fn list_start(page: &mut [u8], used: &mut usize, polyphony: u8, id: u8) -> Lister
+    ensures { Lists page.old used.old (start_line (started polyphony id))
+        (start_lister (started polyphony id)) result used.new page.new }
 {
     let o = device::start(polyphony, id);
     let awaits = behind_start(o.answer);
     if is_refused(awaits) {
-        lines::put_line(page, None, o.answer);
+        *used = lines::put_line(page, *used, None, o.answer);
     }
     Lister {
         awaits,
@@ -94,11 +99,12 @@ fn list_start<const N: usize>(page: &mut Page<N>, polyphony: u8, id: u8) -> List
 
 // A MIDI byte.
 #[tactic(auto, unfolding(crate::specs::Listing::midi_line, crate::specs::Listing::after_midi, crate::specs::Listing::next_offset))]
-fn list_byte<const N: usize>(l: Lister, page: &mut Page<N>, b: u8) -> Lister
-    ensures { Lists page.old (midi_line l b) (after_midi l b) result page.new }
+fn list_byte(l: Lister, page: &mut [u8], used: &mut usize, b: u8) -> Lister
+    ensures { Lists page.old used.old
+        (midi_line l b) (after_midi l b) result used.new page.new }
 {
     let o = device::byte(l.device, b);
-    lines::put_line(page, Some(l.at), o.answer);
+    *used = lines::put_line(page, *used, Some(l.at), o.answer);
     Lister {
         awaits: Awaits::Midi,
         at: l.at.saturating_add(1),
@@ -108,32 +114,35 @@ fn list_byte<const N: usize>(l: Lister, page: &mut Page<N>, b: u8) -> Lister
 
 // One byte of the input: P, the ID or a MIDI byte.
 #[tactic(auto, using(text::proofs::Joined::nothing_put), unfolding(crate::specs::Listing::line, crate::specs::Listing::after))]
-fn one<const N: usize>(l: Lister, page: &mut Page<N>, b: u8) -> Lister
-    ensures { Lists page.old (line l b) (after l b) result page.new }
+fn one(l: Lister, page: &mut [u8], used: &mut usize, b: u8) -> Lister
+    ensures { Lists page.old used.old
+        (line l b) (after l b) result used.new page.new }
 {
     match l.awaits {
         Awaits::Polyphony => Lister {
             awaits: Awaits::Id(b),
             ..l
         },
-        Awaits::Id(polyphony) => list_start(page, polyphony, b),
-        Awaits::Midi => list_byte(l, page, b),
+        Awaits::Id(polyphony) => list_start(page, used, polyphony, b),
+        Awaits::Midi => list_byte(l, page, used, b),
         Awaits::Refused(_) => l,
     }
 }
 
-// The bytes of a read. Where the page has room for 128 bytes for each of them, what they list stands behind what was
-// written, whole.
-pub fn all<const N: usize>(l: Lister, page: &mut Page<N>, bytes: &[u8]) -> Lister
-    ensures lists { Lists page.old (listed_by l bytes.now) (after_all l bytes.now) result page.new }
-    ensures page_after { page.old.used + 128 * length bytes.now ≤ length page.old.bytes
-        → written page.new ≡ written page.old ++ listed_by l bytes.now }
+// The bytes of a read, listed from the page's start on. Where the page has 128 bytes for each of them, what stands
+// before `used` is what they list, whole.
+pub fn all(l: Lister, page: &mut [u8], bytes: &[u8]) -> Listed
+    ensures lists { Lists page.old 0 (listed_by l bytes.now)
+        (after_all l bytes.now) result.lister result.used page.new }
+    ensures page_after { 128 * length bytes.now ≤ length page.old
+        → take result.used page.new ≡ listed_by l bytes.now }
 {
     let mut lister = l;
+    let mut used = 0;
     for b in bytes {
-        lister = one(lister, page, *b);
+        lister = one(lister, page, &mut used, *b);
     }
-    lister
+    Listed { lister, used }
 }
 
 // The bytes that the end of an input leaves missing, which are zeros (R16.1).
@@ -149,8 +158,8 @@ pub fn missing(a: Awaits) -> &'static [u8]
 
 // The end of the input (R16.1).
 #[tactic(auto, unfolding(crate::specs::Listing::end_line))]
-pub fn end<const N: usize>(l: Lister, page: &mut Page<N>)
-    ensures { Puts page.old (end_line l) page.new }
+pub fn end(l: Lister, page: &mut [u8]) -> usize
+    ensures { Put page.old 0 (end_line l) result page.new }
 {
-    all(l, page, missing(l.awaits));
+    all(l, page, missing(l.awaits)).used
 }

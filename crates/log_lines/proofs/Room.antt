@@ -5,11 +5,26 @@ use Prim.Native.Nat.{ℕ, ◌+◌, ◌*◌, ◌≤◌, ◌<◌}
 use mathlib.Core.Path.{◌≡◌}
 use mathlib.Core.List.{List, [], ◌∷◌, ◌++◌}
 use native.Mathlib.Omega.{arith}
-use lib.ListN.{length, length-append}
-use Rattle.text.specs.Text.{decimal, hexadecimals}
+use lib.ListN.{length, take, drop, length-append, length-take}
+use lib.Seq.{take_at}
+use Rattle.text.specs.Text.{Put, decimal, hexadecimals}
+use Rattle.text.proofs.Joined.{whole}
 use Rattle.fields.proofs.Written.{decimal-length}
 use Rattle.arranging.specs.declared.Written.{Written}
 use Rattle.log_lines.specs.LogLines.{written_line}
+
+-- a text of at most n bytes stands whole where the page has n bytes from the place on
+pub stands_behind : (n : ℕ) (text : List ℕ) → length text ≤ n → (at used : ℕ) {p q : List ℕ}
+    → Put p at text used q → at + n ≤ length p → take used q ≡ take at p ++ text
+stands_behind n text l at used {p} {q} put h =
+    let w = whole {p = p} {q = q} {t = text} {at = at} {k = used} (omega arith) put in
+    let k : length (take at p ++ text) ≡ used =
+    rw (length-append (take at p) text, length-take at p) (omega (arith, w.0)) in
+    rw w.1 (take_at (take at p ++ text) (drop (at + length text) p) used k)
+
+pub stands_whole : (n : ℕ) (text : List ℕ) → length text ≤ n
+    → (used : ℕ) {p q : List ℕ} → Put p 0 text used q → n ≤ length p → take used q ≡ text
+stands_whole n text l used put h = stands_behind n text l 0 used put (omega arith)
 
 hex_shorter : (b : ℕ) (l : List ℕ) → length (hexadecimals (b ∷ l)) + 1 ≤ 3 * length (b ∷ l)
 unfolding hexadecimals

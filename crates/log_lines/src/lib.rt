@@ -3,15 +3,15 @@
 // `arranging`'s, and reading and writing are the program's. Assumes nothing.
 #![tactic(auto)]
 
-ghost use Rattle.std.specs.Prelude.{◌+◌, ◌≤◌, ◌≡◌, true, ◌++◌, length};
-ghost use Rattle.text.specs.Text.{Puts, written};
+ghost use Rattle.std.specs.Prelude.{◌+◌, ◌≤◌, ◌≡◌, true, ◌++◌, length, take};
+ghost use Rattle.text.specs.Text.{Put};
 ghost use Rattle.arranging.specs.Run.{begun};
 ghost use Rattle.log_lines.specs.LogLines.{lost, put_away, order_byte, usable, order_in, reading};
 ghost use Rattle.log_lines.specs.LogLines.{new_reading, bytes_read, ended, is_known, message_of, written_line};
 
 use arranging::{Run, Written};
 use fields::Line;
-use text::Page;
+use text::{put, put_number};
 
 // The order's line as far as it is read.
 #[derive(Clone, Copy)]
@@ -169,29 +169,31 @@ pub fn end(c: Reading) -> Written
 
 // ---- the answer
 
-// What standard output gets: the message, or nothing beside a number. Where the page has room for 38 bytes, it stands
-// behind what was written, whole.
-pub fn put_message<const N: usize>(page: &mut Page<N>, w: Written)
-    ensures put { Puts page.old (message_of w) page.new }
-    ensures page_after { page.old.used + 38 ≤ length page.old.bytes
-        → written page.new ≡ written page.old ++ message_of w }
+// What standard output gets, at the page's start: the message, or nothing beside a number. Where the page has 38 bytes,
+// it stands before the place that is answered, whole.
+pub fn put_message(page: &mut [u8], w: Written) -> usize
+    ensures put { Put page.old 0 (message_of w) result page.new }
+    ensures page_after { 38 ≤ length page.old → take result page.new ≡ message_of w }
 {
-    if w.number == 0 {
-        page.put(&w.bytes);
+    if w.number != 0 {
+        return 0;
     }
+    let bytes = w.bytes;
+    put(page, 0, &bytes)
 }
 
-// The answer's line: number, line and message. Where the page has room for 139 bytes, it stands behind what was
-// written, whole.
-pub fn put_written<const N: usize>(page: &mut Page<N>, w: Written)
-    ensures put { Puts page.old (written_line w) page.new }
-    ensures page_after { page.old.used + 139 ≤ length page.old.bytes
-        → written page.new ≡ written page.old ++ written_line w }
+// The answer's line, from this place of the page on: number, line and message. Where the page has 139 bytes from there
+// on, it stands before the place that is answered, whole.
+pub fn put_written(page: &mut [u8], at: usize, w: Written) -> usize
+    ensures put { Put page.old at (written_line w) result page.new }
+    ensures page_after { at + 139 ≤ length page.old
+        → take result page.new ≡ take at page.old ++ written_line w }
 {
-    page.put_number(u64::from(w.number));
-    page.put(b",");
-    page.put_number(w.line);
-    page.put(b",");
-    page.put_bytes(&w.bytes);
-    page.put(b"\n");
+    let a = put_number(page, at, w.number as u64);
+    let b = put(page, a, b",");
+    let c = put_number(page, b, w.line);
+    let d = put(page, c, b",");
+    let bytes = w.bytes;
+    let e = text::put_bytes(page, d, &bytes);
+    put(page, e, b"\n")
 }

@@ -3,17 +3,16 @@
 use Rattle.std.specs.Prelude.{ℕ, suc, ◌≡◌, Bool, ◌&&◌, List, [], ◌∷◌, ◌++◌, eqb, ℤ, pos, negsuc, Result, if◌then◌else◌}
 use Rattle.loops.specs.Cases.{or_zero}
 use Rattle.refusals.specs.declared.Refusal.{Refusal}
-use Rattle.text.specs.declared.Page.{Page}
-use Rattle.text.specs.Text.{Puts, decimal}
+use Rattle.text.specs.Text.{Put, decimal}
 use Rattle.pitch.specs.declared.Pitch.{Pitch}
 use Rattle.pitch.specs.Pitch.{pitch_of, pitch_number, pitch_in}
 use Rattle.fields.specs.declared.Line.{Line}
 use Rattle.fields.specs.Answers.{malformed_line, answer_by, answers_by, end_answer_by, all_answers_by}
 
--- a text put into a page: what is kept, and the page behind it
-pub record Answers {N : ℕ} (old : Page N) (text : List ℕ) (c r : Line) (new : Page N) : Type 0 where
+-- a text put at a place of a page: what is kept, and the place and the page behind it
+pub record Answers (old : List ℕ) (at : ℕ) (text : List ℕ) (c r : Line) (next : ℕ) (new : List ℕ) : Type 0 where
   pub kept : r ≡ c
-  pub put : Puts old text new
+  pub put : Put old at text next new
 
 -- a number with its sign, `-` below 0 and none from 0 on (`negsuc n` is -(n + 1))
 abbrev pub signed : ℤ → List ℕ

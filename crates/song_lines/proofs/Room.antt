@@ -3,10 +3,13 @@
 -- Assumes nothing.
 use Rattle.std.specs.Prelude.{Result, Ok, Err}
 use Prim.Native.Nat.{ℕ, ◌≤◌, ◌<◌}
-use mathlib.Core.List.{[], ◌∷◌, ◌++◌}
+use mathlib.Core.Path.{◌≡◌}
+use mathlib.Core.List.{List, [], ◌∷◌, ◌++◌}
 use native.Mathlib.Omega.{arith}
-use lib.ListN.{length, length-append}
-use Rattle.text.specs.Text.{decimal_within, decimal}
+use lib.ListN.{length, take, length-append}
+use lib.Seq.{take_at}
+use Rattle.text.specs.Text.{Put, decimal_within, decimal}
+use Rattle.text.proofs.Joined.{whole}
 use Rattle.fields.proofs.Written.{decimal-length}
 use Rattle.refusals.specs.declared.Refusal.{Refusal}
 use Rattle.refusals.specs.Refusals.{number}
@@ -24,3 +27,13 @@ answer-length (Err r) m h =
     let d : length (decimal (number r)) ≤ 3 = decimal-length 2 20 (number r) (omega arith) in
     rw (length-append (decimal (number r) ++ (44 ∷ 48 ∷ [])) (10 ∷ []), length-append (decimal (number r)) (44 ∷ 48 ∷ []))
     (omega arith)
+
+-- so it stands in a page of 16 bytes whole
+pub stands_whole : (a : Result ℕ Refusal) → or_zero (song_number a) < 256 → thefts_in a < 4294967296
+    → (used : ℕ) {p q : List ℕ}
+    → Put p 0 (answer_line a) used q → 16 ≤ length p → take used q ≡ answer_line a
+stands_whole a m t used {p} {q} put h =
+    let l = answer-length a m t in
+    let w = whole {p = p} {q = q} {t = answer_line a} {at = 0} {k = used} (omega arith) put in
+    let n : length (answer_line a) ≡ used = omega (arith, w.0) in
+    rw w.1 (take_at (answer_line a) _ used n)

@@ -3,8 +3,8 @@
 // program's. Assumes nothing.
 #![tactic(auto)]
 
-ghost use Rattle.std.specs.Prelude.{◌≤◌, ◌≡◌, ◌+◌, ◌++◌, length, take, drop};
-ghost use Rattle.text.specs.Text.{Puts, written};
+ghost use Rattle.std.specs.Prelude.{◌≤◌, ◌≡◌, ◌++◌, length, take, drop};
+ghost use Rattle.text.specs.Text.{Put};
 ghost use Rattle.fields.specs.Line.{after};
 ghost use Rattle.fields.specs.Answers.{malformed_line};
 ghost use Rattle.song.specs.Song.{song_answer, song_written};
@@ -12,7 +12,7 @@ ghost use Rattle.song_lines.specs.SongLines.{answer_line, line_request, request,
 
 use fields::Line;
 use refusals::Refusal;
-use text::Page;
+use text::{put, put_number};
 
 // What a byte of the input asks for.
 #[derive(Clone, Copy)]
@@ -72,6 +72,13 @@ pub fn end(c: Line) -> Request
     ended(c)
 }
 
+// What a song became: its answer, and how many bytes of the page standard output gets.
+#[derive(Clone, Copy)]
+pub struct Written {
+    pub answer: Result<u32, Refusal>,
+    pub used: usize,
+}
+
 // The song behind the page's first two bytes, which are for P and the own ID.
 fn write_behind(page: &mut [u8], polyphony: u8, n: usize) -> Result<u32, Refusal>
     requires { 2 ≤ length page.old }
@@ -83,42 +90,51 @@ fn write_behind(page: &mut [u8], polyphony: u8, n: usize) -> Result<u32, Refusal
 
 // A song at the page's start, behind its P and the own ID 0, which is what standard output gets; a refused one gets
 // nothing. A page without two bytes has no room for one.
-pub fn put_song<const N: usize>(page: &mut Page<N>, polyphony: u8, n: usize) -> Result<u32, Refusal>
-    ensures { SongPut polyphony n page.old.bytes result page.new.used page.new.bytes }
+pub fn put_song(page: &mut [u8], polyphony: u8, n: usize) -> Written
+    ensures { SongPut polyphony n page.old result.answer result.used page.new }
 {
-    page.used = 0;
-    if page.bytes[..].len() < 2 {
-        return Err(Refusal::SongTooLong);
+    if page.len() < 2 {
+        return Written {
+            answer: Err(Refusal::SongTooLong),
+            used: 0,
+        };
     }
-    let thefts = write_behind(&mut page.bytes, polyphony, n)?;
-    page.bytes[0] = polyphony;
-    page.bytes[1] = 0;
-    page.used = n + 2;
-    Ok(thefts)
+    let answer = write_behind(page, polyphony, n);
+    match answer {
+        Ok(_) => {
+            page[0] = polyphony;
+            page[1] = 0;
+            Written {
+                answer,
+                used: n + 2,
+            }
+        }
+        Err(_) => Written { answer, used: 0 },
+    }
 }
 
-// The answer's line. Where the page has room for 16 bytes, it stands behind what was written, whole.
-pub fn put_answer<const N: usize>(page: &mut Page<N>, a: Result<u32, Refusal>)
-    ensures put { Puts page.old (answer_line a) page.new }
-    ensures page_after { page.old.used + 16 ≤ length page.old.bytes
-        → written page.new ≡ written page.old ++ answer_line a }
+// The answer's line, at the page's start. Where the page has 16 bytes, what stands before the place that it answers is
+// the line, whole.
+pub fn put_answer(page: &mut [u8], a: Result<u32, Refusal>) -> usize
+    ensures put { Put page.old 0 (answer_line a) result page.new }
+    ensures page_after { 16 ≤ length page.old → take result page.new ≡ answer_line a }
 {
     match a {
         Ok(t) => {
-            page.put(b"0,");
-            page.put_number(u64::from(t));
-            page.put(b"\n");
+            let k = put(page, 0, b"0,");
+            let m = put_number(page, k, u64::from(t));
+            put(page, m, b"\n")
         }
         Err(r) => {
-            page.put_number(u64::from(r.number()));
-            page.put(b",0\n");
+            let k = put_number(page, 0, u64::from(r.number()));
+            put(page, k, b",0\n")
         }
     }
 }
 
 // The line of a malformed one.
-pub fn put_malformed<const N: usize>(page: &mut Page<N>)
-    ensures { Puts page.old malformed_line page.new }
+pub fn put_malformed(page: &mut [u8]) -> usize
+    ensures { Put page.old 0 malformed_line result page.new }
 {
-    page.put(b"malformed\n");
+    put(page, 0, b"malformed\n")
 }

@@ -10,8 +10,7 @@ use native.Mathlib.Omega.{arith}
 use borrow.Author.Tests.{leb-true, leb-false}
 use lib.Dec.{leb}
 use lib.ListN.{length, set, take, drop, get_or, length-append}
-use Rattle.std.proofs.Common.{length-take-le}
-use lib.Seq.{sets, length-sets, sets-eq, set_out, take-suc, take_all, take_at}
+use lib.Seq.{sets, length-sets, sets-eq, set_out, take-suc, take_all}
 use Rattle.text.specs.Text.{Put}
 
 sets_out : (l : List ℕ) (i : ℕ) (t : List ℕ) → length l ≤ i → sets l i t ≡ l
@@ -65,11 +64,3 @@ module _ (t : List ℕ) (i : ℕ) {p q : List ℕ} {at k : ℕ} (a : Put p at (t
 pub whole : {p q t : List ℕ} {at k : ℕ} → at + length t ≤ length p → Put p at t k q
     → (k ≡ at + length t) × (q ≡ take at p ++ t ++ drop (at + length t) p)
 whole {p} {q} {t} {at} {k} h a = let x = a.place in (omega arith, a.page ∙ sets-eq t p at h)
-
--- then what is written is what was, and the text behind it
-pub written_behind : {p q t : List ℕ} {at k : ℕ} → at + length t ≤ length p → Put p at t k q → take k q ≡ take at p ++ t
-written_behind {p} {q} {t} {at} {k} h a =
-    let w = whole {t = t} {at = at} h a in
-    let n : length (take at p) ≡ at = length-take-le at p (omega arith) in
-    let m : length (take at p ++ t) ≡ at + length t = rw (length-append (take at p) t, n) in
-    rw (w.0, w.1) (take_at _ _ _ m)

@@ -1,7 +1,6 @@
 -- Text in a page of bytes, and numbers as text.
-use Rattle.std.specs.Prelude.{ℕ, zero, suc, ◌+◌, ◌-◌, ◌/◌, ◌%◌, min, max, ◌≡◌, List, [], ◌∷◌, ◌++◌, ltb, eqb, length, take, if◌then◌else◌}
+use Rattle.std.specs.Prelude.{ℕ, zero, suc, ◌+◌, ◌-◌, ◌/◌, ◌%◌, min, max, ◌≡◌, List, [], ◌∷◌, ◌++◌, ltb, eqb, length, if◌then◌else◌}
 use Rattle.std.proofs.lemmas.List.Edits.{sets}
-use Rattle.text.specs.declared.Page.{Page}
 
 -- A text put at a place of a page, with the place and the page that this leaves. The place is the one behind the text,
 -- or the page's end if the text ran into it; a place past the end stays. The page has the text's bytes stored from the
@@ -9,13 +8,6 @@ use Rattle.text.specs.declared.Page.{Page}
 pub record Put (old : List ℕ) (at : ℕ) (text : List ℕ) (next : ℕ) (new : List ℕ) : Type 0 where
   pub place : next ≡ max at (min (at + length text) (length old))
   pub page : new ≡ sets old at text
-
--- what a page has, and the same of one that says how much of it is written: its place is behind that
-abbrev pub written : {N : ℕ} → Page N → List ℕ
-written p = take p.used p.bytes
-
-abbrev pub Puts : {N : ℕ} → Page N → List ℕ → Page N → Type 0
-Puts p text q = Put p.bytes p.used text q.used q.bytes
 
 -- a number of at most so many digits, in ASCII, the most significant first
 unfoldable pub decimal_within : ℕ → ℕ → List ℕ

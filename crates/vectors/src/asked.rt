@@ -1,24 +1,30 @@
 // The commands G, M, S, D, T, W and C, which ask the device and change nothing, and L with one number, which asks for a
 // channel's gains. Assumes nothing.
-use crate::answers::{Page, put_malformed, put_refused};
+use crate::answers::{put_malformed, put_refused};
 use crate::sounds::put_channel_levels;
 use channels::Channel;
 use device::Device;
 use lines::put_field;
 use queries::GeneratorState;
 use refusals::Refusal;
+use text::put;
 
 // No operation makes a state above 3, releasing.
-fn put_state(page: &mut Page, state: u8) {
+fn put_state(page: &mut [u8], at: usize, state: u8) -> usize {
     match state {
-        0 => page.put(b",idle"),
-        1 => page.put(b",held"),
-        2 => page.put(b",sustained"),
-        _ => page.put(b",releasing"),
+        0 => put(page, at, b",idle"),
+        1 => put(page, at, b",held"),
+        2 => put(page, at, b",sustained"),
+        _ => put(page, at, b",releasing"),
     }
 }
 
-fn put_generator(page: &mut Page, g: u8, answer: Result<GeneratorState, Refusal>) {
+fn put_generator(
+    page: &mut [u8],
+    at: usize,
+    g: u8,
+    answer: Result<GeneratorState, Refusal>,
+) -> usize {
     match answer {
         Ok(
             GeneratorState {
@@ -27,96 +33,114 @@ fn put_generator(page: &mut Page, g: u8, answer: Result<GeneratorState, Refusal>
                 key,
             },
         ) => {
-            page.put(b"generator");
-            put_field(page, g);
-            put_state(page, state);
-            put_field(page, channel);
-            put_field(page, key);
-            page.put(b"\n");
+            let b = put(page, at, b"generator");
+            let c = put_field(page, b, g);
+            let d = put_state(page, c, state);
+            let e = put_field(page, d, channel);
+            let f = put_field(page, e, key);
+            put(page, f, b"\n")
         }
-        Err(refusal) => put_refused(page, refusal),
+        Err(refusal) => put_refused(page, at, refusal),
     }
 }
 
-fn put_mask(page: &mut Page, answer: Result<bool, Refusal>) {
+fn put_mask(page: &mut [u8], at: usize, answer: Result<bool, Refusal>) -> usize {
     match answer {
-        Ok(true) => page.put(b"masked\n"),
-        Ok(false) => page.put(b"unmasked\n"),
-        Err(refusal) => put_refused(page, refusal),
+        Ok(true) => put(page, at, b"masked\n"),
+        Ok(false) => put(page, at, b"unmasked\n"),
+        Err(refusal) => put_refused(page, at, refusal),
     }
 }
 
-fn put_share(page: &mut Page, answer: Result<u8, Refusal>) {
+fn put_share(page: &mut [u8], at: usize, answer: Result<u8, Refusal>) -> usize {
     match answer {
         Ok(n) => {
-            page.put(b"share");
-            put_field(page, n);
-            page.put(b"\n");
+            let b = put(page, at, b"share");
+            let c = put_field(page, b, n);
+            put(page, c, b"\n")
         }
-        Err(refusal) => put_refused(page, refusal),
+        Err(refusal) => put_refused(page, at, refusal),
     }
 }
 
-fn put_rhythm(page: &mut Page, rhythm: bool) {
+fn put_rhythm(page: &mut [u8], at: usize, rhythm: bool) -> usize {
     if rhythm {
-        page.put(b"rhythm\n");
-    } else {
-        page.put(b"melody\n");
+        return put(page, at, b"rhythm\n");
     }
+    put(page, at, b"melody\n")
 }
 
 // The shares of all channels, - for a masked one.
-fn put_shares(page: &mut Page, d: Device) {
-    page.put(b"shares");
+fn put_shares(page: &mut [u8], at: usize, d: Device) -> usize {
+    let mut k = put(page, at, b"shares");
     for c in 1..=16 {
-        match (queries::mask_query(d, c), queries::share_query(d, c)) {
-            (Ok(false), Ok(n)) => put_field(page, n),
-            _ => page.put(b",-"),
-        }
+        k = match (queries::mask_query(d, c), queries::share_query(d, c)) {
+            (Ok(false), Ok(n)) => put_field(page, k, n),
+            _ => put(page, k, b",-"),
+        };
     }
-    page.put(b"\n");
+    put(page, k, b"\n")
 }
 
 // The line of each generator that is not idle.
-fn put_players(page: &mut Page, d: Device) {
+fn put_players(page: &mut [u8], at: usize, d: Device) -> usize {
+    let mut k = at;
     for g in 0..64 {
         let answer = queries::generator_query(d, g);
         if answer.is_ok_and(|a| a.state != 0) {
-            put_generator(page, g, answer);
+            k = put_generator(page, k, g, answer);
         }
     }
+    k
 }
 
-// A channel's thirteen numbers: its program, its controllers, its bend and its bank.
-fn put_numbers(page: &mut Page, x: Channel) {
-    page.put(b"numbers");
-    put_field(page, x.program);
-    put_field(page, x.modulation);
-    put_field(page, x.volume);
-    put_field(page, x.pan);
-    put_field(page, x.expression);
-    put_field(page, x.hold);
-    put_field(page, x.rpn_msb);
-    put_field(page, x.rpn_lsb);
-    put_field(page, x.bend_msb);
-    put_field(page, x.bend_lsb);
-    put_field(page, x.sensitivity);
-    put_field(page, x.bank_msb);
-    put_field(page, x.bank_lsb);
-    page.put(b"\n");
+fn put_controllers(page: &mut [u8], at: usize, x: Channel) -> usize {
+    let a = put_field(page, at, x.modulation);
+    let b = put_field(page, a, x.volume);
+    let c = put_field(page, b, x.pan);
+    let d = put_field(page, c, x.expression);
+    put_field(page, d, x.hold)
+}
+
+fn put_bend(page: &mut [u8], at: usize, x: Channel) -> usize {
+    let a = put_field(page, at, x.rpn_msb);
+    let b = put_field(page, a, x.rpn_lsb);
+    let c = put_field(page, b, x.bend_msb);
+    let d = put_field(page, c, x.bend_lsb);
+    put_field(page, d, x.sensitivity)
+}
+
+fn put_bank(page: &mut [u8], at: usize, x: Channel) -> usize {
+    let a = put_field(page, at, x.bank_msb);
+    put_field(page, a, x.bank_lsb)
+}
+
+fn put_numbers(page: &mut [u8], at: usize, x: Channel) -> usize {
+    let a = put(page, at, b"numbers");
+    let b = put_field(page, a, x.program);
+    let c = put_controllers(page, b, x);
+    let d = put_bend(page, c, x);
+    let e = put_bank(page, d, x);
+    put(page, e, b"\n")
 }
 
 // The answer to a command that asks the device.
-pub(crate) fn put_asked(page: &mut Page, d: Device, command: u8, numbers: &[u8]) {
+pub(crate) fn put_asked(
+    page: &mut [u8],
+    at: usize,
+    d: Device,
+    command: u8,
+    numbers: &[u8],
+) -> usize {
     match (command, numbers) {
-        (b'T', []) => put_shares(page, d),
-        (b'W', []) => put_players(page, d),
-        (b'G', &[g]) => put_generator(page, g, queries::generator_query(d, g)),
-        (b'M', &[c]) => put_mask(page, queries::mask_query(d, c)),
-        (b'S', &[c]) => put_share(page, queries::share_query(d, c)),
-        (b'D', &[c]) => put_rhythm(page, queries::rhythm_query(d, c)),
-        (b'C', &[c @ 1..=16]) => put_numbers(page, d.instrument.channel_of(c)),
-        (b'L', &[c @ 1..=16]) => put_channel_levels(page, d.instrument.channel_of(c)),
-        _ => put_malformed(page),
+        (b'T', []) => put_shares(page, at, d),
+        (b'W', []) => put_players(page, at, d),
+        (b'G', &[g]) => put_generator(page, at, g, queries::generator_query(d, g)),
+        (b'M', &[c]) => put_mask(page, at, queries::mask_query(d, c)),
+        (b'S', &[c]) => put_share(page, at, queries::share_query(d, c)),
+        (b'D', &[c]) => put_rhythm(page, at, queries::rhythm_query(d, c)),
+        (b'C', &[c @ 1..=16]) => put_numbers(page, at, d.instrument.channel_of(c)),
+        (b'L', &[c @ 1..=16]) => put_channel_levels(page, at, d.instrument.channel_of(c)),
+        _ => put_malformed(page, at),
     }
 }

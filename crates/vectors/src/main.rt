@@ -40,7 +40,7 @@ mod pages;
 mod songs;
 mod sounds;
 
-use crate::answers::{PAGE, Page, put_malformed};
+use crate::answers::put_malformed;
 use crate::asked::put_asked;
 use crate::line::{Awaits, Line, in_three};
 use crate::pages::put_service_asked;
@@ -52,11 +52,13 @@ use device::Device;
 use events::Event;
 use std::ops::ControlFlow;
 
-// What is kept from byte to byte: the line, the offset of the next MIDI byte, the device, and the log.
+// What is kept from byte to byte: the line, the offset of the next MIDI byte, the bytes of the page in use, the device,
+// and the log.
 #[derive(Clone, Copy)]
 struct Bench {
     line: Line,
     at: u64,
+    used: usize,
     device: Device,
     log: Run,
 }
@@ -66,26 +68,27 @@ impl Bench {
         Bench {
             line: Line::new(),
             at: 0,
+            used: 0,
             device: device::start(1, 0).device,
             log: arranging::begin(b""),
         }
     }
 
-    fn start(&mut self, page: &mut Page, polyphony: u8, id: u8) {
+    fn start(&mut self, page: &mut [u8], polyphony: u8, id: u8) {
         let o = device::start(polyphony, id);
-        lines::put_line(page, None, o.answer);
+        self.used = lines::put_line(page, self.used, None, o.answer);
         self.at = 0;
         self.device = o.device;
     }
 
-    fn apply(&mut self, page: &mut Page, offset: Option<u64>, e: Event) {
+    fn apply(&mut self, page: &mut [u8], offset: Option<u64>, e: Event) {
         let o = events::apply(self.device, e);
-        lines::put_line(page, offset, o.answer);
+        self.used = lines::put_line(page, self.used, offset, o.answer);
         self.device = o.device;
     }
 
     // MIDI bytes.
-    fn take_bytes(&mut self, page: &mut Page, bytes: &[u8]) {
+    fn take_bytes(&mut self, page: &mut [u8], bytes: &[u8]) {
         for b in bytes {
             self.apply(page, Some(self.at), Event::Byte(*b));
             self.at = self.at.saturating_add(1);
@@ -93,7 +96,7 @@ impl Bench {
     }
 
     // A command.
-    fn run_command(&mut self, page: &mut Page) {
+    fn run_command(&mut self, page: &mut [u8]) {
         let line = self.line;
         match (line.command, line.numbers()) {
             (b'P', &[polyphony, id]) => self.start(page, polyphony, id),
@@ -101,40 +104,48 @@ impl Bench {
             (b'B', [_, ..]) => self.take_bytes(page, line.numbers()),
             (b'O', order) => self.log = arranging::begin(order),
             (b'A', [_, ..]) => self.log = arranging::take(self.log, line.numbers()),
-            (command, numbers) => self.put_told(page, command, numbers),
+            (command, numbers) => self.used = self.put_told(page, command, numbers),
         }
     }
 
     // The answer to a command that changes nothing.
-    fn put_told(&self, page: &mut Page, command: u8, numbers: &[u8]) {
+    fn put_told(&self, page: &mut [u8], command: u8, numbers: &[u8]) -> usize {
         match (command, numbers) {
             (b'K', &[key, sensitivity, msb, lsb]) => {
-                put_pitch_asked(page, key, sensitivity, msb, lsb)
+                put_pitch_asked(page, self.used, key, sensitivity, msb, lsb)
             }
-            (b'L', &[expression, volume, pan]) => put_levels_asked(page, expression, volume, pan),
-            (b'H', &[polyphony, a, b, c, d, e, f]) => {
-                put_song_asked(page, polyphony, in_three(a, b, c), in_three(d, e, f))
+            (b'L', &[expression, volume, pan]) => {
+                put_levels_asked(page, self.used, expression, volume, pan)
             }
-            (b'E', []) => log_lines::put_written(page, arranging::end(self.log)),
-            (b'V', []) => put_service_asked(page, self.device, 323),
-            (b'V', &[high, low]) => put_service_asked(page, self.device, in_three(0, high, low)),
-            _ => put_asked(page, self.device, command, numbers),
+            (b'H', &[polyphony, a, b, c, d, e, f]) => put_song_asked(
+                page,
+                self.used,
+                polyphony,
+                in_three(a, b, c),
+                in_three(d, e, f),
+            ),
+            (b'E', []) => log_lines::put_written(page, self.used, arranging::end(self.log)),
+            (b'V', []) => put_service_asked(page, self.used, self.device, 323),
+            (b'V', &[high, low]) => {
+                put_service_asked(page, self.used, self.device, in_three(0, high, low))
+            }
+            _ => put_asked(page, self.used, self.device, command, numbers),
         }
     }
 
     // A line's end: the line is run, if it is a command.
-    fn end_line(&mut self, page: &mut Page) {
+    fn end_line(&mut self, page: &mut [u8]) {
         match self.line.awaits {
             Awaits::Command | Awaits::Comment => {}
             Awaits::Gap => self.run_command(page),
-            _ => put_malformed(page),
+            _ => self.used = put_malformed(page, self.used),
         }
         self.line = Line::new();
     }
 
     // One byte of the input.
-    fn read(&mut self, page: &mut Page, b: u8) {
-        page.put_byte(b);
+    fn read(&mut self, page: &mut [u8], b: u8) {
+        self.used = text::put_byte(page, self.used, b);
         if b == b'\n' {
             self.end_line(page);
         } else {
@@ -143,33 +154,37 @@ impl Bench {
     }
 }
 
-impl Filter<PAGE> for Bench {
+impl Filter for Bench {
     const NAME: &'static [u8] = b"vectors";
 
     fn take(
         &mut self,
         rt: &HostRuntime,
-        page: &mut Page,
+        page: &mut [u8],
         bytes: &[u8],
     ) -> Result<ControlFlow<()>, Failed> {
+        self.used = 0;
         for b in bytes {
             self.read(page, *b);
         }
-        self.write_out(rt, page)?;
+        self.write_out(rt, page, self.used)?;
         Ok(ControlFlow::Continue(()))
     }
 
     // A last line without its end is run all the same.
-    fn end(&mut self, rt: &HostRuntime, page: &mut Page) -> Result<(), Failed> {
+    fn end(&mut self, rt: &HostRuntime, page: &mut [u8]) -> Result<(), Failed> {
+        self.used = 0;
         if !matches!(self.line.awaits, Awaits::Command) {
             self.read(page, b'\n');
         }
-        self.write_out(rt, page)
+        self.write_out(rt, page, self.used)
     }
 }
 
+// A command's answer is no longer than 64 lines, and the shortest command has two bytes, so the page has room for what
+// a read of 256 bytes calls for.
 fn main(rt: HostRuntime) {
     let mut input = [0u8; 256];
-    let mut page = Page::new();
+    let mut page = [0u8; 262144];
     let _ = Bench::new().run(&rt, &mut input, &mut page);
 }

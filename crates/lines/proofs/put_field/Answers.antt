@@ -6,4 +6,5 @@ use Rattle.lines.proofs.put_field.Goals as goal
 
 pub returns : goal.returns
 unfolding field
-returns g c = joined c.put.ensures (rw c.from.ensures at c.put_number.ensures)
+returns c =
+    joined c.put-k.ensures (rw c.from.ensures at c.put_number.ensures)

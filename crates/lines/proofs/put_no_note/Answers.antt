@@ -4,5 +4,7 @@ use Rattle.text.proofs.Joined.{joined}
 use Rattle.lines.proofs.put_no_note.Goals as goal
 
 pub returns : goal.returns
-returns g c =
-    joined (joined (joined c.put_field.ensures c.put_field-2.ensures) c.put_field-3.ensures) c.put.ensures
+returns c = joined (joined (joined
+    c.put_field-a.ensures
+    c.put_field-b.ensures)
+    c.put_field-c.ensures) c.put.ensures

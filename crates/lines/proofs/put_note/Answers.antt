@@ -4,6 +4,8 @@ use Rattle.text.proofs.Joined.{joined}
 use Rattle.lines.proofs.put_note.Goals as goal
 
 pub returns : goal.returns
-returns g c =
-    joined (joined (joined (joined c.put.ensures c.put_field.ensures) c.put_field-2.ensures) c.put_field-3.ensures)
-    c.put_was.ensures
+returns c = joined (joined (joined (joined
+    c.put-a.ensures
+    c.put_field-b.ensures)
+    c.put_field-c.ensures)
+    c.put_field-d.ensures) c.put_was.ensures

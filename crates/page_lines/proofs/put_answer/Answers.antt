@@ -6,12 +6,12 @@ use Rattle.page_lines.proofs.put_answer.Goals as goal
 
 pub returns-in-Midi : goal.returns-in-Midi
 unfolding answer_text
-returns-in-Midi g c =
+returns-in-Midi c =
     let w = c.put_page.ensures in
     rw c.in-Midi.is (record { answer_put = w; page_after = λ h. page-whole _ _ _ _ w.0 w.1 h })
 
 pub returns-in-Refused : goal.returns-in-Refused
 unfolding answer_text
-returns-in-Refused g c =
+returns-in-Refused c =
     let w = c.put_refused.ensures in
     rw c.in-Refused.is (record { answer_put = w; page_after = λ h. line-whole _ _ w h })

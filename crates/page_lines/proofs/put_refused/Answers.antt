@@ -6,4 +6,4 @@ use Rattle.page_lines.proofs.put_refused.Goals as goal
 
 pub returns : goal.returns
 unfolding number_line
-returns g c = joined (rw (c.from.ensures, c.number.ensures) at c.put_number.ensures) c.put.ensures
+returns c = joined (rw (c.from.ensures, c.number.ensures) at c.put_number-k.ensures) c.put.ensures

@@ -27,24 +27,24 @@ called k s b e f g h i =
 
 pub returns-in-Ok : goal.returns-in-Ok
 unfolding line_answer answer_line decimal_within
-returns-in-Ok g c =
+returns-in-Ok c =
     let l = c.args.c in
     let e = called l.first l.previous l.last c.min-key.ensures c.min-sensitivity.ensures c.min-bend.ensures
     c.pitch_of.ensures c.in-Ok.is in
-    rw (not-false _ c.if-not-c.false, eq-eqb _ _ c.if-c-ne2.false, e) (joined c.put-in-Ok.ensures c.put_pitch.ensures)
+    rw (not-false _ c.if-not-c.false, eq-eqb _ _ c.if-c-ne2.false, e) (joined c.put-k.ensures c.put_pitch.ensures)
 
 pub returns-in-Err : goal.returns-in-Err
 unfolding line_answer answer_line pitch_fields decimal_within
-returns-in-Err g c =
+returns-in-Err c =
     let l = c.args.c in
     let e = called l.first l.previous l.last c.min-key.ensures c.min-sensitivity.ensures c.min-bend.ensures
     c.pitch_of.ensures c.in-Err.is in
-    let n = rw (c.from.ensures, c.number.ensures) at c.put_number.ensures in
+    let n = rw (c.from.ensures, c.number.ensures) at c.put_number-k.ensures in
     rw (not-false _ c.if-not-c.false, eq-eqb _ _ c.if-c-ne2.false, e) (joined n c.put-in-Err.ensures)
 
 pub returns-then-not-c : goal.returns-then-not-c
 unfolding line_answer
-returns-then-not-c g c =
+returns-then-not-c c =
     elim c.then-not-c.branch [
       | then-not-c-via-then-not-c w ↦ rw (not-true _ w.if-not-c.true) c.put.ensures
       | then-not-c-via-else-not-c+then-c-ne2 w ↦

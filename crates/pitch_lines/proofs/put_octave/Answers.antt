@@ -24,12 +24,13 @@ from_0 (pos n) e = refl
 from_0 (negsuc n) e = absurd (true≢false e)
 
 pub returns : goal.returns
-returns g c =
+returns c =
     let back = to_z-of_z {w = w8} {z = c.args.octave} c.ranges.octave in
     let d = rw (c.from.ensures, c.unsigned_abs.ensures.value, back) at c.put_number.ensures in
     elim c.if-octave-lt0.branch [
       | then-octave-lt0 w ↦
-          rw (below_0 _ (rw back at w.if-octave-lt0.true)) (joined (rw w.put-is at c.put.ensures) d)
+          rw (below_0 _ (rw back at w.if-octave-lt0.true)) (joined w.put-k.ensures (rw (w.page-is, w.k-is) at d))
       | else-octave-lt0 w ↦
-          rw (from_0 _ (rw back at w.if-octave-lt0.false)) (joined (rw w.put-is at c.put.ensures) d)
+          rw (from_0 _ (rw back at w.if-octave-lt0.false))
+          (joined w.put-k-else-octave-lt0.ensures (rw (w.page-is, w.k-is) at d))
     ]

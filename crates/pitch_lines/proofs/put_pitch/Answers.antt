@@ -9,8 +9,8 @@ use Rattle.pitch_lines.proofs.put_pitch.Goals as goal
 
 pub returns : goal.returns
 unfolding pitch_fields
-returns g c =
+returns c =
     let back = to_z-of_z {w = w8} {z = c.args.p.octave} (search rules) in
     joined
-    (joined (rw back at c.put_octave.ensures) (joined c.put.ensures (rw c.from.ensures at c.put_number.ensures)))
-    c.put-2.ensures
+    (joined (rw back at c.put_octave-a.ensures) (joined c.put-b.ensures (rw c.from.ensures at c.put_number-c.ensures)))
+    c.put.ensures
