@@ -4,7 +4,7 @@
 use Rattle.std.specs.Prelude.{if◌then◌else◌}
 use Prim.Native.Nat.{ℕ, ◌+◌, ◌-◌, ◌≤◌, ◌<◌}
 use mathlib.Core.Path.{◌≡◌, refl, sym, ap, ◌∙◌}
-use mathlib.Core.Bool.{Bool, true, false, not}
+use mathlib.Core.Bool.{Bool, true, false, false≢true}
 use mathlib.Core.List.{List, [], ◌∷◌, ◌++◌}
 use native.Mathlib.Numerals.{add-one}
 use native.Mathlib.Omega.{arith}
@@ -12,53 +12,43 @@ use lib.Dec.{eqb}
 use lib.ListN.{length, take, drop, get_or, drop_of_length-le, length-drop}
 use lib.Seq.{drop-cons, take_all}
 use borrow.Author.Tests.{eq-eqb, ne_eqb, not-true}
-use Rattle.fields.proofs.Numbers.{both}
 use Rattle.arranging.specs.declared.Run.{Run}
 use Rattle.arranging.specs.Arranging.{message}
 use Rattle.arranging.specs.Run.{joined, begun, byte_heard, heard}
 use Rattle.arranging.proofs.Parts.{stays, parts}
 use Rattle.log_lines.specs.declared.OrderLine.{OrderLine}
 use Rattle.log_lines.specs.declared.Reading.{Reading}
-use Rattle.log_lines.specs.LogLines.{new_order, order_byte, order_bytes, order_in, reading, new_reading}
+use Rattle.log_lines.specs.declared.Reading.TheVariants.{Order, Log}
+use Rattle.log_lines.specs.LogLines.{new_order, order_byte, order_bytes, order_in, new_reading}
 use Rattle.log_lines.specs.LogLines.{byte_read, bytes_read, parts_read, is_known, ended, message_of, written_line}
 use Rattle.log_lines.specs.LogLines.{first_line, behind_first, arranged, standard_output, standard_error}
 
 -- ---- the bytes of a read
 
 -- in the log
-pub all_heard : (o : OrderLine) (r : Run) (bs : List ℕ) → bytes_read (reading true o r) bs ≡ reading true o (heard r bs)
+pub all_heard : (r : Run) (bs : List ℕ) → bytes_read (Log r) bs ≡ Log (heard r bs)
 unfolding bytes_read byte_read heard
-all_heard o r [] = refl
-all_heard o r (b ∷ bs) = all_heard o (byte_heard r b) bs
-
-pub in_log : (c : Reading) (bs : List ℕ) → c.ordered ≡ true
-    → bytes_read c bs ≡ reading true c.order (heard c.run bs)
-in_log c bs e = ap (λ (x : Bool). bytes_read (reading x c.order c.run) bs) e ∙ all_heard c.order c.run bs
-
-pub in_order : (c : Reading) (bs : List ℕ) → c.ordered ≡ false
-    → bytes_read c bs ≡ bytes_read (reading false c.order c.run) bs
-in_order c bs e = ap (λ (x : Bool). bytes_read (reading x c.order c.run) bs) e
+all_heard r [] = refl
+all_heard r (b ∷ bs) = all_heard (byte_heard r b) bs
 
 -- in the order's line, at turn i of a loop: its end, and any other byte
-module _ (bs : List ℕ) (i : ℕ) (h : i < length bs) (o : OrderLine) (r : Run) where
-  turn : bytes_read (reading false o r) (drop i bs)
-      ≡ bytes_read (byte_read (reading false o r) (get_or bs i 0)) (drop (i + 1) bs)
+module _ (bs : List ℕ) (i : ℕ) (h : i < length bs) (o : OrderLine) where
+  turn : bytes_read (Order o) (drop i bs) ≡ bytes_read (byte_read (Order o) (get_or bs i 0)) (drop (i + 1) bs)
   unfolding bytes_read
-  turn = rw (add-one i) (ap (bytes_read (reading false o r)) (drop-cons bs i 0 h))
+  turn = rw (add-one i) (ap (bytes_read (Order o)) (drop-cons bs i 0 h))
 
   -- what is lent of the part is all that stands behind the place
   rest : take (length bs - (i + 1)) (drop (i + 1) bs) ≡ drop (i + 1) bs
   rest = take_all (length bs - (i + 1)) (drop (i + 1) bs) (let n = length-drop (i + 1) bs in omega arith)
 
   pub at_end : get_or bs i 0 ≡ 10
-      → bytes_read (reading false o r) (drop i bs)
-      ≡ reading true o (heard (begun (order_in o)) (take (length bs - (i + 1)) (drop (i + 1) bs)))
+      → bytes_read (Order o) (drop i bs)
+      ≡ Log (heard (begun (order_in o)) (take (length bs - (i + 1)) (drop (i + 1) bs)))
   unfolding byte_read
-  at_end e = turn ∙ rw (eq-eqb (get_or bs i 0) 10 e, rest) (all_heard o (begun (order_in o)) (drop (i + 1) bs))
+  at_end e = turn ∙ rw (eq-eqb (get_or bs i 0) 10 e, rest) (all_heard (begun (order_in o)) (drop (i + 1) bs))
 
   pub at_byte : (get_or bs i 0 ≡ 10 → ⊥)
-      → bytes_read (reading false o r) (drop i bs)
-      ≡ bytes_read (reading false (order_byte o (get_or bs i 0)) r) (drop (i + 1) bs)
+      → bytes_read (Order o) (drop i bs) ≡ bytes_read (Order (order_byte o (get_or bs i 0))) (drop (i + 1) bs)
   unfolding byte_read
   at_byte e = turn ∙ rw (ne_eqb (get_or bs i 0) 10 e)
 
@@ -68,22 +58,22 @@ no_more bs i c h = ap (bytes_read c) (drop_of_length-le bs h)
 
 -- ---- the input as a whole
 
-from_order : (o : OrderLine) (r : Run) (bs : List ℕ)
-    → ended (bytes_read (reading false o r) bs) ≡ message (order_in (order_bytes o (first_line bs))) (behind_first bs)
+from_order : (o : OrderLine) (bs : List ℕ)
+    → ended (bytes_read (Order o) bs) ≡ message (order_in (order_bytes o (first_line bs))) (behind_first bs)
 unfolding bytes_read byte_read ended heard first_line behind_first order_bytes
-from_order o r [] = parts (order_in o) []
-from_order o r (b ∷ bs) = go (eqb b 10) (from_order (order_byte o b) r bs)
+from_order o [] = parts (order_in o) []
+from_order o (b ∷ bs) = go (eqb b 10) (from_order (order_byte o b) bs)
   where
-    go : (x : Bool) → ended (bytes_read (reading false (order_byte o b) r) bs)
+    go : (x : Bool) → ended (bytes_read (Order (order_byte o b)) bs)
         ≡ message (order_in (order_bytes (order_byte o b) (first_line bs))) (behind_first bs)
-        → ended (bytes_read (if x then reading true o (begun (order_in o)) else reading false (order_byte o b) r) bs)
+        → ended (bytes_read (if x then Log (begun (order_in o)) else Order (order_byte o b)) bs)
         ≡ message (order_in (order_bytes o (if x then [] else b ∷ first_line bs))) (if x then bs else behind_first bs)
-    go true ih = ap ended (all_heard o (begun (order_in o)) bs) ∙ parts (order_in o) bs
+    go true ih = ap ended (all_heard (begun (order_in o)) bs) ∙ parts (order_in o) bs
     go false ih = ih
 
 pub input_read : (input : List ℕ) → ended (bytes_read new_reading input) ≡ arranged input
 unfolding arranged
-input_read input = from_order new_order _ input
+input_read input = from_order new_order input
 
 -- in parts
 read-append : (c : Reading) (a b : List ℕ) → bytes_read c (a ++ b) ≡ bytes_read (bytes_read c a) b
@@ -103,11 +93,10 @@ any_parts ps = ap ended (parts_read_lem new_reading ps) ∙ input_read (joined p
 
 pub known : (c : Reading) (bs : List ℕ) → is_known c ≡ true → ended (bytes_read c bs) ≡ ended c
 unfolding is_known ended heard
-known c bs e =
-    let p = both c.ordered (not (eqb c.run.song.number 0)) e in
-    let n = not-true (eqb c.run.song.number 0) p.1 in
-    rw (in_log c bs p.0, p.0)
-    (stays bs c.run.song c.run.line n ∙ sym (stays [] c.run.song c.run.line n))
+known (Order o) bs e = absurd (false≢true e)
+known (Log r) bs e =
+    let n = not-true (eqb r.song.number 0) e in
+    rw (all_heard r bs) (stays bs r.song r.line n ∙ sym (stays [] r.song r.line n))
 
 -- so the answer that is given at once is that of the whole input
 pub at_once : (ps : List (List ℕ)) (rest : List ℕ) → is_known (parts_read new_reading ps) ≡ true

@@ -17,12 +17,8 @@ use Rattle.fields.specs.Line.{new_line, malformed, kept, is_digit, after_digit, 
 use Rattle.fields.specs.Fields.{is_field, are_fields, number_from, is_number, spelled}
 use Rattle.fields.proofs.Numbers.{both, at, kept_digit}
 use Rattle.log_lines.specs.declared.OrderLine.{OrderLine}
-use Rattle.log_lines.specs.LogLines.{order_line, new_order, lost, is_put, put_away, order_byte}
+use Rattle.log_lines.specs.LogLines.{order_line, new_order, lost, put_away, order_byte}
 use Rattle.log_lines.specs.LogLines.{order_bytes, order_in, parted, are_numbers, channel_in, fields_order}
-
--- there is a place for a number that is put away
-pub has_place : (c : OrderLine) → is_put c ≡ true → c.count < 16
-has_place c e = ltb-true c.count 16 (both (c.number.digit && eqb c.number.commas 0) (ltb c.count 16) e).1
 
 -- ---- a line that no byte makes an order any more
 

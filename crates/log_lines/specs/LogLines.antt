@@ -8,12 +8,12 @@ use Rattle.text.specs.Text.{decimal, hexadecimals}
 use Rattle.fields.specs.declared.Line.{Line}
 use Rattle.fields.specs.Line.{new_line, read}
 use Rattle.fields.specs.Fields.{is_number, spelled}
-use Rattle.arranging.specs.declared.Run.{Run}
 use Rattle.arranging.specs.declared.Written.{Written}
 use Rattle.arranging.specs.Arranging.{message}
 use Rattle.arranging.specs.Run.{begun, byte_heard, finished}
 use Rattle.log_lines.specs.declared.OrderLine.{OrderLine}
 use Rattle.log_lines.specs.declared.Reading.{Reading}
+use Rattle.log_lines.specs.declared.Reading.TheVariants.{Order, Log}
 
 -- ---- the order's line, byte by byte
 
@@ -55,18 +55,13 @@ order_in c = take (usable (put_away c).count) (put_away c).channels
 
 -- ---- the input, byte by byte
 
-abbrev pub reading : Bool → OrderLine → Run → Reading
-reading ordered order run = record { ordered = ordered; order = order; run = run }
-
 abbrev pub new_reading : Reading
-new_reading = reading false new_order (begun [])
+new_reading = Order new_order
 
 -- 0AH ends the order's line, and what comes behind it is the log
 unfoldable pub byte_read : Reading → ℕ → Reading
-byte_read c b =
-    if c.ordered then reading true c.order (byte_heard c.run b) else
-    if eqb b 10 then reading true c.order (begun (order_in c.order)) else
-    reading false (order_byte c.order b) c.run
+byte_read (Order o) b = if eqb b 10 then Log (begun (order_in o)) else Order (order_byte o b)
+byte_read (Log r) b = Log (byte_heard r b)
 
 unfoldable pub bytes_read : Reading → List ℕ → Reading
 bytes_read c [] = c
@@ -79,11 +74,13 @@ parts_read c (p ∷ ps) = parts_read (bytes_read c p) ps
 
 -- a number has fallen; nothing behind it changes the answer (proofs/Input.antt)
 unfoldable pub is_known : Reading → Bool
-is_known c = c.ordered && not (eqb c.run.song.number 0)
+is_known (Order o) = false
+is_known (Log r) = not (eqb r.song.number 0)
 
 -- the end of the input: an order's line without its 0AH is taken all the same, with a log of no lines
 unfoldable pub ended : Reading → Written
-ended c = finished (if c.ordered then c.run else begun (order_in c.order))
+ended (Order o) = finished (begun (order_in o))
+ended (Log r) = finished r
 
 -- ---- the answer
 

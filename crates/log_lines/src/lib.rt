@@ -3,11 +3,12 @@
 // `arranging`'s, and reading and writing are the program's. Assumes nothing.
 #![tactic(auto)]
 
-ghost use Rattle.std.specs.Prelude.{◌+◌, ◌≤◌, ◌≡◌, true, ◌++◌, length, take};
+ghost use Rattle.std.specs.Prelude.{◌+◌, ◌≤◌, ◌≡◌, ◌++◌, length, take};
 ghost use Rattle.text.specs.Text.{Put};
 ghost use Rattle.arranging.specs.Run.{begun};
-ghost use Rattle.log_lines.specs.LogLines.{lost, put_away, order_byte, usable, order_in, reading};
+ghost use Rattle.log_lines.specs.LogLines.{new_order, lost, put_away, order_byte, usable, order_in};
 ghost use Rattle.log_lines.specs.LogLines.{new_reading, bytes_read, ended, is_known, message_of, written_line};
+ghost use Rattle.log_lines.specs.declared.Reading.TheVariants.{Order};
 
 use arranging::{Run, Written};
 use fields::Line;
@@ -24,15 +25,27 @@ pub struct OrderLine {
     pub channels: [u8; 16],
 }
 
-// An input as far as it is read: before the order's line has ended that line, and behind it the log.
+// An input as far as it is read.
 #[derive(Clone, Copy)]
-pub struct Reading {
-    pub ordered: bool,
-    pub order: OrderLine,
-    pub run: Run,
+pub enum Reading {
+    // The order's line has not ended.
+    Order(OrderLine),
+    // The log behind it.
+    Log(Run),
 }
 
 // ---- the order's line
+
+// A line of which nothing is read yet.
+fn new_order() -> OrderLine
+    ensures { result ≡ new_order }
+{
+    OrderLine {
+        number: fields::begin(),
+        count: 0,
+        channels: [0; 16],
+    }
+}
 
 // A line that no byte makes an order any more.
 fn lose() -> OrderLine
@@ -46,17 +59,17 @@ fn lose() -> OrderLine
 }
 
 // The number is put behind the others: at a comma, and at the line's end.
+#[tactic(auto, unfolding(crate::specs::LogLines::put_away))]
 fn put_away(c: OrderLine) -> OrderLine
     ensures { result ≡ put_away c }
 {
     let read = c.number;
-    let at = c.count as usize;
-    if read.digit & (read.commas == 0) & (at < 16) {
-        let number = fields::begin();
+    let at = usize::from(c.count);
+    if read.digit && read.commas == 0 && at < 16 {
         let mut channels = c.channels;
         channels[at] = read.last.min(255) as u8;
         return OrderLine {
-            number,
+            number: fields::begin(),
             count: c.count + 1,
             channels,
         };
@@ -65,6 +78,7 @@ fn put_away(c: OrderLine) -> OrderLine
 }
 
 // A byte of the line, other than its end.
+#[tactic(auto, unfolding(crate::specs::LogLines::order_byte))]
 fn next(c: OrderLine, b: u8) -> OrderLine
     ensures { result ≡ order_byte c b }
 {
@@ -81,20 +95,16 @@ fn next(c: OrderLine, b: u8) -> OrderLine
 fn usable(count: u8) -> usize
     ensures { (result ≡ usable count) × (result ≤ 16) }
 {
-    if count <= 16 {
-        return usize::from(count);
-    }
-    0
+    if count <= 16 { usize::from(count) } else { 0 }
 }
 
 // The line has ended: the log begins with the order that it is, or with that of no channels, which is refused.
+#[tactic(auto, unfolding(crate::specs::LogLines::order_in))]
 fn begin_log(c: OrderLine) -> Run
     ensures { result ≡ begun (order_in c) }
 {
     let o = put_away(c);
-    let channels = o.channels;
-    let n = usable(o.count);
-    arranging::begin(&channels[..n])
+    arranging::begin(&o.channels[..usable(o.count)])
 }
 
 // ---- the input
@@ -103,68 +113,55 @@ fn begin_log(c: OrderLine) -> Run
 pub fn begin() -> Reading
     ensures { result ≡ new_reading }
 {
-    Reading {
-        ordered: false,
-        order: OrderLine {
-            number: fields::begin(),
-            count: 0,
-            channels: [0; 16],
-        },
-        run: arranging::begin(b""),
-    }
+    Reading::Order(new_order())
 }
 
-// Behind the order's line.
-fn in_log(order: OrderLine, run: Run) -> Reading
-    ensures { result ≡ reading true order run }
+// The bytes of a read within the order's line: those of the line one by one, and all that stand behind it at once.
+#[tactic(auto, using(crate::proofs::Input::at_end, crate::proofs::Input::at_byte, crate::proofs::Input::no_more))]
+fn read_order(c: OrderLine, bytes: &[u8]) -> Reading
+    ensures { result ≡ bytes_read (Order c) bytes.now }
 {
-    Reading {
-        ordered: true,
-        order,
-        run,
+    let mut order = c;
+    for (i, &b) in bytes.iter().enumerate() {
+        if b == b'\n' {
+            return Reading::Log(arranging::take(begin_log(order), &bytes[i + 1..]));
+        }
+        order = next(order, b);
     }
+    Reading::Order(order)
 }
 
-// The bytes of a read: those of the order's line one by one, and all that stand behind it at once.
+// The bytes of a read.
+#[tactic(auto, using(crate::proofs::Input::all_heard))]
 pub fn all(c: Reading, bytes: &[u8]) -> Reading
     ensures { result ≡ bytes_read c bytes.now }
 {
-    let run = c.run;
-    let ordered = c.ordered;
-    if ordered {
-        return in_log(c.order, arranging::take(run, bytes));
+    match c {
+        Reading::Order(order) => read_order(order, bytes),
+        Reading::Log(run) => Reading::Log(arranging::take(run, bytes)),
     }
-    let mut order = c.order;
-    let mut i = 0;
-    while i < bytes.len() {
-        let b = bytes[i];
-        i += 1;
-        if b == b'\n' {
-            return in_log(order, arranging::take(begin_log(order), &bytes[i..]));
-        }
-        let after = next(order, b);
-        order = after;
-    }
-    let mut kept = c;
-    kept.order = order;
-    kept
 }
 
 // A number has fallen: whatever comes behind it, the answer is known.
+#[tactic(auto, unfolding(crate::specs::LogLines::is_known))]
 pub fn is_known(c: Reading) -> bool
     ensures { result ≡ is_known c }
 {
-    c.ordered & (c.run.song.number != 0)
+    match c {
+        Reading::Order(_) => false,
+        Reading::Log(run) => run.song.number != 0,
+    }
 }
 
 // The end of the input. An order's line without its 0AH is taken all the same, with a log of no lines.
+#[tactic(auto, unfolding(crate::specs::LogLines::ended))]
 pub fn end(c: Reading) -> Written
     ensures { result ≡ ended c }
 {
-    if c.ordered {
-        return arranging::end(c.run);
+    match c {
+        Reading::Order(order) => arranging::end(begin_log(order)),
+        Reading::Log(run) => arranging::end(run),
     }
-    arranging::end(begin_log(c.order))
 }
 
 // ---- the answer
