@@ -5,7 +5,8 @@
 ghost use Rattle.std.specs.Prelude.{◌≡◌};
 ghost use Rattle.ages.specs.Ages.{without, pushed, newest};
 
-// The first `count` numbers are the sounding generators, the oldest first; the others are 0.
+// The first `count` numbers are the sounding generators, the oldest first; the others are 0. C reads the count and the
+// numbers.
 #[repr(C)]
 #[derive(Clone, Copy)]
 pub struct Ages {

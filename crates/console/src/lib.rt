@@ -56,6 +56,7 @@ fn write_all<W: Write>(output: &mut W, bytes: &[u8]) -> Result<(), Cut>
     ensures { Writes (length bytes.now) result }
 {
     let mut from = 0;
+    // Each step is what a call took, so that no `for` fits.
     while from < bytes.len() {
         let taken = write_some(output, &bytes[from..]);
         if taken == 0 {

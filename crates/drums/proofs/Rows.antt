@@ -55,7 +55,7 @@ found k = row_number (first_of (is_key k) rows)
 right : ℕ → ℕ → Bool
 right k x = eqb x (group_number (group_of k))
 
-rule : (k : ℕ) → k < 256 → row_number (first_of (is_key k) rows) ≡ group_number (group_of k)
+pub rule : (k : ℕ) → k < 256 → row_number (first_of (is_key k) rows) ≡ group_number (group_of k)
 unfolding up_to first_of right group_of
 rule k h =
     let l = length-up_to found 256 in

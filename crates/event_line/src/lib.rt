@@ -8,7 +8,7 @@ ghost use Rattle.event_line.specs.Parse.{are_digits, number, event_by};
 use events::Event;
 
 // The bytes of a line so far, its 0AH included. The first seven are kept and counted: no line of an event is longer
-// than six.
+// than six. C lends the count and the bytes.
 #[repr(C)]
 #[derive(Clone, Copy)]
 pub struct Line {

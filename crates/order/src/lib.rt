@@ -4,7 +4,7 @@
 ghost use Rattle.std.specs.Prelude.{◌≡◌, ◌+◌, eqb};
 ghost use Rattle.order.specs.Order.{each, times, order_of};
 
-// How often channel c stands in the order.
+// How often channel c stands in the order. A `for`, since a chain's count makes a log's begin five times dearer.
 fn times(order: [u8; 16], c: u8) -> u8
     ensures { result ≡ times order c }
 {

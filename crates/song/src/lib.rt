@@ -29,7 +29,7 @@ fn song_byte(i: usize) -> u8
     0x40
 }
 
-// Whether a note-on that stole its generator was so answered.
+// Whether the answer is that of a note-on that stole its generator.
 fn is_theft(a: Answer) -> bool
     ensures { result ≡ is_theft a }
 {

@@ -9,7 +9,7 @@ ghost use Rattle.splitter.specs.Split.{at_last, completed, data_byte, ended, spl
 
 // Between two bytes: the status byte in force, 0 for none (F0 while a SysEx is open, F1 to F3 while data bytes are
 // swallowed), the number of data bytes since, and these bytes. Of a SysEx the first 37 are kept and counted: a longer
-// one is as wrong at 37 as at any length.
+// one is as wrong at 37 as at any length. C reads the count and the bytes.
 #[repr(C)]
 #[derive(Clone, Copy)]
 pub struct Parser {
@@ -170,6 +170,7 @@ impl Parser {
 fn one_data_byte(s: u8) -> bool
     ensures { result ≡ one_data_byte s }
 {
+    // `matches!` has branches, and makes a data byte ten instructions dearer.
     ((0xC0 <= s) & (s < 0xE0)) | ((s == 0xF1) | (s == 0xF3))
 }
 

@@ -16,7 +16,7 @@ pub struct Entry {
     pub value: u8,
 }
 
-// The first `count` entries, by falling priority; the others are 0.
+// The first `count` entries, by falling priority; the others are 0. C reads the count and the entries.
 #[repr(C)]
 #[derive(Clone, Copy)]
 pub struct Table {

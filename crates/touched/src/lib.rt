@@ -10,7 +10,8 @@ use playing::Answer;
 use refusals::Refusal;
 use splitter::Completed;
 
-// Whether the byte concerns the parser alone.
+// Whether the byte concerns the parser alone. Apart from its answer, since an Option of that makes every byte ten
+// instructions and more dearer.
 pub fn is_quiet(c: Completed) -> bool
     ensures { result ≡ is_quiet c }
 {
