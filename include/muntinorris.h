@@ -63,7 +63,7 @@
  * program change comes. The banks of all other channels are stored for you, and mean nothing here. Rules R5.12, R6.15,
  * R6.16.
  *
- * The machine. libmuntinorris.a is for programs on x86-64 Linux, on any such processor. It is some 43 KB of code and
+ * The machine. libmuntinorris.a is for programs on x86-64 Linux, on any such processor. It is some 48 KB of code and
  * constants, has no data, and calls memcpy and memset of the C library and nothing else. A byte takes up to some 3.4 KB
  * of stack, a report 1.6 KB; calls that take more say so below, and docs/PERFORMANCE.md has all figures. Those of the
  * stack were measured on the build of an older kit.

@@ -20,7 +20,6 @@ use events::Event;
 use playing::Answer;
 use refusals::Refusal;
 use splitter::{Completed, Parser};
-use std::array;
 use sysex::Kind;
 
 // The message, with number 0; or 38 zeros beside R8.15, R8.16 or R8.17.
@@ -95,7 +94,7 @@ fn is_theft(w: Was) -> bool
 fn is_nothing_to_steal(r: Refusal) -> bool
     ensures { result ≡ eqb (number r) 11 }
 {
-    matches!(r, Refusal::NothingToSteal)
+    r.number() == Refusal::NothingToSteal.number()
 }
 
 // Whether a note is lost: an older one by theft, or the new one since none is to be stolen.
@@ -210,7 +209,11 @@ fn byte_at(order: [u8; 16], most: [u8; 16], i: usize) -> u8
 fn compose(order: [u8; 16], most: [u8; 16]) -> [u8; 38]
     ensures { result ≡ mip_message (listing order most) }
 {
-    array::from_fn(|i| byte_at(order, most, i))
+    let mut out = [0; 38];
+    for i in 0..38 {
+        out[i] = byte_at(order, most, i);
+    }
+    out
 }
 
 // 38 zero bytes beside a number.

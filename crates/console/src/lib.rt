@@ -24,15 +24,18 @@ pub struct Cut {
     pub taken: usize,
 }
 
-// Waits for bytes on standard input, and takes those that are there, as far as the buffer has room: so many came and
-// stand at the buffer's start, or none at the input's end.
-pub fn read(rt: &HostRuntime, buffer: &mut [u8]) -> Result<usize, Unreadable>
+// Waits for bytes on standard input, and takes those that are there, as far as the buffer has room: so many came, one at
+// least, and stand at the buffer's start, or None at the input's end.
+pub fn read(rt: &HostRuntime, buffer: &mut [u8]) -> Result<Option<usize>, Unreadable>
     ensures { Reads buffer.new result }
 {
     let mut input = rt.stdin();
     for _ in 0..TRIES {
         if let Ok(n) = input.read(buffer) {
-            return Ok(n);
+            if n == 0 {
+                return Ok(None);
+            }
+            return Ok(Some(n));
         }
     }
     Err(Unreadable)
@@ -152,14 +155,16 @@ pub trait Filter: Copy {
     fn run(mut self, rt: &HostRuntime, input: &mut [u8], page: &mut [u8]) -> Result<(), Failed> {
         self.begin(rt, page)?;
         for _ in 0..u64::MAX {
-            let Ok(n) = read(rt, input) else {
-                return Err(self.tell(rt, b": standard input can't be read\n"));
-            };
-            if n == 0 {
-                return self.end(rt, page);
-            }
-            if self.take(rt, page, &input[..n])?.is_break() {
-                return Ok(());
+            match read(rt, input) {
+                Ok(Some(n)) => {
+                    if self.take(rt, page, &input[..n])?.is_break() {
+                        return Ok(());
+                    }
+                }
+                Ok(None) => return self.end(rt, page),
+                Err(Unreadable) => {
+                    return Err(self.tell(rt, b": standard input can't be read\n"));
+                }
             }
         }
         Err(Failed)

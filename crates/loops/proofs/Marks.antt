@@ -1,5 +1,5 @@
 -- Marks: a loop marks the first n numbers in a blank array. Where no number from n on passes, these are the marks of
--- all, and a mark says whether its number passes.
+-- all, and a mark says whether its number passes. A mark is 1 or 0, or true or false.
 -- Assumes nothing.
 use mathlib.Core.Path.{◌≡◌, refl, sym, ap, ◌∙◌}
 use mathlib.Core.Bool.{Bool, true, false, not}
@@ -7,9 +7,10 @@ use mathlib.Core.List.{List, [], ◌∷◌, ◌++◌, append_assoc, append-nil}
 use Prim.Native.Nat.{ℕ, zero, suc, ◌+◌, ◌≤◌, ◌<◌}
 use native.Mathlib.Nat.{add-zero}
 use native.Mathlib.Omega.{arith}
-use borrow.Author.Tests.{ltb-true, ltb-false}
+use borrow.Author.Tests.{ltb-true, ltb-false, eqb-true, eqb-false}
 use lib.Dec.{eqb, ltb}
-use lib.ListN.{length, get_or, replicate, get_or-eq_default}
+use lib.ListN.{length, get_or, set, replicate, get_or-eq_default}
+use lib.Seq.{get_or-set_same, get_or-set_other}
 use Rattle.loops.specs.Cases.{bit}
 use Rattle.loops.specs.Passes.{up_to, marks_of}
 use Rattle.loops.proofs.Fill.{at-up_to, length-up_to}
@@ -58,3 +59,18 @@ module _ (p : ℕ → Bool) (n : ℕ) (none-on : (i : ℕ) → n ≤ i → p i �
 
   pub a_mark : n ≤ 256 → (i : ℕ) → not (eqb (get_or (marks_of p) i 0) 0) ≡ p i
   a_mark few i = ap not (no_mark few i) ∙ twice (p i)
+
+-- a turn of the loop that marks by true and false: what stands below its place, and from its place on
+pub mark_below : (f : ℕ → Bool) (out : List Bool) (c : ℕ) (v : Bool) → c < length out → v ≡ f c
+    → ((k : ℕ) → k < c → get_or out k false ≡ f k) → (k : ℕ) → k < c + 1 → get_or (set out c v) k false ≡ f k
+mark_below f out c v h e m k s = go (eqb k c) refl
+  where
+    go : (t : Bool) → eqb k c ≡ t → get_or (set out c v) k false ≡ f k
+    go true t = rw (eqb-true k c t, get_or-set_same out c v false h) e
+    go false t = let d = eqb-false k c t in rw (get_or-set_other out c k v false d) (m k (omega (arith, d)))
+
+pub mark_above : (out : List Bool) (c : ℕ) (v : Bool) → ((k : ℕ) → c ≤ k → get_or out k false ≡ false)
+    → (k : ℕ) → c + 1 ≤ k → get_or (set out c v) k false ≡ false
+mark_above out c v m k s =
+    let d : k ≡ c → ⊥ = λ e. absurd (omega arith) in
+    rw (get_or-set_other out c k v false d) (m k (omega arith))

@@ -4,12 +4,11 @@ use Rattle.std.specs.Prelude.{if◌then◌else◌}
 use mathlib.Core.Path.{◌≡◌, refl, ap}
 use mathlib.Core.Bool.{Bool, true, false, ◌&&◌, not, and-false}
 use mathlib.Core.List.{List}
-use Prim.Native.Nat.{ℕ, ◌+◌, ◌≤◌, ◌<◌}
+use Prim.Native.Nat.{ℕ, ◌≤◌}
 use native.Mathlib.Omega.{arith}
-use borrow.Author.Tests.{lt-leb, le-leb, eqb-true, eqb-false}
-use lib.Dec.{leb, eqb}
-use lib.ListN.{length, get_or, set}
-use lib.Seq.{get_or-set_same, get_or-set_other}
+use borrow.Author.Tests.{lt-leb, le-leb}
+use lib.Dec.{leb}
+use lib.ListN.{get_or}
 use Rattle.shares.specs.Shares.{share_of, is_masked}
 use Rattle.loops.specs.Passes.{up_to}
 use Rattle.loops.proofs.Fill.{up_to-same}
@@ -40,18 +39,3 @@ module _ (p : ℕ) (old new : Table) where
       ≡ masked p old new s
   unfolding masked
   mask_of s gone mark = ap (with_states s) (up_to-same _ _ 64 (λ g k. rw (mark (at s g).channel)))
-
--- a turn of the loop that marks by a rule: what stands below its place, and from its place on
-pub mark_below : (f : ℕ → Bool) (out : List Bool) (c : ℕ) (v : Bool) → c < length out → v ≡ f c
-    → ((k : ℕ) → k < c → get_or out k false ≡ f k) → (k : ℕ) → k < c + 1 → get_or (set out c v) k false ≡ f k
-mark_below f out c v h e m k s = go (eqb k c) refl
-  where
-    go : (t : Bool) → eqb k c ≡ t → get_or (set out c v) k false ≡ f k
-    go true t = rw (eqb-true k c t, get_or-set_same out c v false h) e
-    go false t = let d = eqb-false k c t in rw (get_or-set_other out c k v false d) (m k (omega (arith, d)))
-
-pub mark_above : (out : List Bool) (c : ℕ) (v : Bool) → ((k : ℕ) → c ≤ k → get_or out k false ≡ false)
-    → (k : ℕ) → c + 1 ≤ k → get_or (set out c v) k false ≡ false
-mark_above out c v m k s =
-    let d : k ≡ c → ⊥ = λ e. absurd (omega arith) in
-    rw (get_or-set_other out c k v false d) (m k (omega arith))

@@ -23,9 +23,9 @@ listed_more c (x ∷ l) e = ap (λ (b : Bool). eqb c x.channel || b) (listed_mor
 abbrev pub Marks : List Entry → List Bool → Type 0
 Marks l marks = (c : ℕ) → c ≤ 16 → get_or marks c false ≡ listed c l
 
-pub no_marks : Marks [] (replicate 17 false)
+pub no_marks : Marks [] (replicate 256 false)
 unfolding listed
-no_marks c h = blank false 17 c
+no_marks c h = blank false 256 c
 
 pub mark_more : (l after : List Entry) (marks : List Bool) (e : Entry) → e.channel < length marks
     → after ≡ l ++ (e ∷ []) → Marks l marks → Marks after (set marks e.channel true)

@@ -18,7 +18,7 @@ fn judge_pairs(bytes: &[u8]) -> Result<Table, Refusal>
 {
     let mut t = Table::EMPTY;
     let mut before = 0;
-    let mut listed = [false; 17];
+    let mut listed = [false; 256];
     for pair in bytes.chunks_exact(2) {
         let (m, value) = (pair[0], pair[1]);
         if 15 < m {

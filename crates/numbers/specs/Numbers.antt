@@ -8,6 +8,7 @@ use Rattle.allocation.specs.declared.Was.{Was}
 use Rattle.allocation.specs.declared.Was.TheVariants.{Idle, Release, Stolen}
 use Rattle.playing.specs.declared.Answer.{Answer}
 use Rattle.playing.specs.declared.Answer.TheVariants.{Nothing, Done, Note, NoNote, Number}
+use Rattle.playing.specs.Playing.{number_of}
 use Rattle.queries.specs.declared.GeneratorState.{GeneratorState}
 use Rattle.pitch.specs.declared.Pitch.{Pitch}
 use Rattle.pitch.specs.Pitch.{pitch_in, pitch_number}
@@ -34,9 +35,9 @@ numbers_of Nothing = record { what = 0; number = 0; channel = 0; key = 0; genera
 numbers_of Done = record { what = 1; number = 0; channel = 0; key = 0; generator = 0; was = 0 }
 numbers_of (Note c k g w) = record { what = 2; number = 0; channel = c; key = k; generator = g; was = was_number w }
 numbers_of (NoNote r c k) =
-    record { what = 3; number = refusals.number r; channel = c; key = k; generator = 0; was = 0 }
+    record { what = 3; number = or_zero (number_of (NoNote r c k)); channel = c; key = k; generator = 0; was = 0 }
 numbers_of (Number r) =
-    record { what = 3; number = refusals.number r; channel = 0; key = 0; generator = 0; was = 0 }
+    record { what = 3; number = or_zero (number_of (Number r)); channel = 0; key = 0; generator = 0; was = 0 }
 
 -- R18.2, R7.3: the answers to queries; a refused one gives its number alone
 abbrev pub generator_numbers : Result GeneratorState Refusal → GeneratorNumbers

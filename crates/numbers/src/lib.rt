@@ -102,6 +102,8 @@ fn was_number(w: Was) -> u8
     }
 }
 
+// Laid out within each call: what a byte that completes nothing is answered is known there.
+#[inline(always)]
 pub fn answer_numbers(a: Answer) -> AnswerNumbers
     ensures { result ≡ numbers_of a }
 {

@@ -6,6 +6,7 @@ ghost use Rattle.std.specs.Prelude.{◌≡◌};
 ghost use Rattle.queries.specs.Queries.{generator_query, mask_query, share_query, rhythm_query};
 
 use device::Device;
+use generators::Generators;
 use refusals::Refusal;
 
 // What a query of a generator tells of it.
@@ -24,12 +25,18 @@ pub fn generator_query(d: Device, g: u8) -> Result<GeneratorState, Refusal>
     if d.instrument.polyphony <= g {
         return Err(Refusal::NoGenerator);
     }
-    let generators = d.instrument.generators;
+    // Each array by itself: the order of age is not copied for it.
+    let Generators {
+        state,
+        channel,
+        key,
+        ..
+    } = d.instrument.generators;
     let at = usize::from(g);
     Ok(GeneratorState {
-        state: generators.state.get(at).copied().unwrap_or(0),
-        channel: generators.channel.get(at).copied().unwrap_or(0),
-        key: generators.key.get(at).copied().unwrap_or(0),
+        state: state.get(at).copied().unwrap_or(0),
+        channel: channel.get(at).copied().unwrap_or(0),
+        key: key.get(at).copied().unwrap_or(0),
     })
 }
 

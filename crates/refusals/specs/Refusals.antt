@@ -25,3 +25,4 @@ number refusal.ShortPage = 18
 number refusal.PitchOutOfRange = 21
 number refusal.GainsOutOfRange = 24
 number refusal.SongTooLong = 25
+number (refusal.Other n) = n

@@ -49,6 +49,8 @@ pub enum Refusal {
     GainsOutOfRange,
     // The hardest song: it is too long, or longer than the buffer.
     SongTooLong,
+    // None of these: no call here is refused so. An answer that is put into words or numbers may hold any number.
+    Other(u8),
 }
 
 impl Refusal {
@@ -78,6 +80,7 @@ impl Refusal {
             Refusal::PitchOutOfRange => 21,
             Refusal::GainsOutOfRange => 24,
             Refusal::SongTooLong => 25,
+            Refusal::Other(n) => n,
         }
     }
 }

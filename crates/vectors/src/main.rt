@@ -157,6 +157,15 @@ impl Bench {
 impl Filter for Bench {
     const NAME: &'static [u8] = b"vectors";
 
+    // The line goes out in one write.
+    fn tell(&self, rt: &HostRuntime, what: &[u8]) -> Failed {
+        let mut line = [0u8; 64];
+        let behind = text::put(&mut line, 0, Self::NAME);
+        let used = text::put(&mut line, behind, what);
+        let _ = console::write_error(rt, &line, used);
+        Failed
+    }
+
     fn take(
         &mut self,
         rt: &HostRuntime,

@@ -10,7 +10,8 @@ use lib.Dec.{ltb}
 use lib.ListN.{get_or, length-set}
 use Rattle.loops.proofs.Padded.{blank}
 use Rattle.masking.specs.Masking.{is_newly_masked}
-use Rattle.masking.proofs.Marked.{no_channel, newly, mark_below, mark_above}
+use Rattle.loops.proofs.Marks.{mark_below, mark_above}
+use Rattle.masking.proofs.Marked.{no_channel, newly}
 use Rattle.masking.proofs.newly_masked.Goals as goal
 
 pub loop-c-init : goal.loop-c-init

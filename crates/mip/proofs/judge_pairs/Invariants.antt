@@ -17,4 +17,4 @@ invariant-loop-pair l =
     × (judged_by (entries_of l.t ++ pairs l.pair-iterator.rest.now)
     (faulty (entries_of l.t) l.before (pairs l.pair-iterator.rest.now))
     ≡ judged_pairs (pairs l.fn.bytes))
-    × (length l.listed ≡ 17) × Marks (entries_of l.t) l.listed
+    × (length l.listed ≡ 256) × Marks (entries_of l.t) l.listed
