@@ -2,17 +2,16 @@
 -- where its generator is not one of P; in a log P is 64 throughout, since no event changes it, and a line's generator
 -- is below 64.
 -- Assumes nothing.
-use Rattle.std.specs.Prelude.{Some, None, Result, Ok, Err, if◌then◌else◌}
-use Rattle.std.specs.Prelude as std
+use Rattle.std.specs.Prelude.{Result, Ok, Err, if◌then◌else◌}
 use mathlib.Core.Path.{◌≡◌, refl, sym, ◌∙◌}
-use mathlib.Core.Bool.{Bool, true, false, ◌||◌}
-use mathlib.Core.List.{List, [], ◌∷◌, ◌++◌}
+use mathlib.Core.Bool.{Bool, true, false}
+use mathlib.Core.List.{List, [], ◌∷◌}
 use mathlib.Core.Option.{Option, some, none}
-use Prim.Native.Nat.{ℕ, zero, suc, ◌%◌, ◌≤◌}
+use Prim.Native.Nat.{ℕ, zero, suc, ◌≤◌}
 use native.Mathlib.Omega.{arith}
 use borrow.Author.Tests.{lt-leb}
-use lib.Dec.{eqb, leb, ltb}
-use lib.ListN.{length, get_or}
+use lib.Dec.{eqb, leb}
+use lib.ListN.{get_or}
 use Rattle.loops.specs.Cases.{differ}
 use Rattle.loops.proofs.Cases.{by_both}
 use Rattle.loops.proofs.Tests.{impossible}
@@ -26,32 +25,23 @@ use Rattle.splitter.specs.Split.{body, split}
 use Rattle.message.specs.declared.Message.{Message}
 use Rattle.message.specs.declared.Message.TheVariants as message
 use Rattle.message.specs.Message.{decode}
-use Rattle.table.specs.declared.Entry.{Entry}
 use Rattle.table.specs.declared.Table.{Table}
-use Rattle.table.specs.Table.{listed}
-use Rattle.shares.specs.Shares.{is_masked, share_of}
 use Rattle.sysex.specs.declared.Kind.{Kind}
 use Rattle.sysex.specs.declared.Kind.TheVariants.{Mip, SystemOn, Other}
 use Rattle.sysex.specs.SysEx.{kind_of}
-use Rattle.mip.specs.Mip.{pairs, faulty, judged_by, judged_pairs, judged}
+use Rattle.mip.specs.Mip.{judged}
 use Rattle.generators.specs.declared.Generators.{Generators}
 use Rattle.generators.specs.Generators.{at, is_idle}
 use Rattle.releases.specs.declared.Change.TheVariants.{ReleaseChannel, NoteOff}
 use Rattle.releases.specs.Releases.{changed}
-use Rattle.candidates.specs.declared.Want.TheVariants.{Releasing}
-use Rattle.candidates.specs.Candidates.{lowest_idle, oldest}
-use Rattle.stealing.specs.Stealing.{victim}
-use Rattle.allocation.specs.declared.Was.{Was}
-use Rattle.allocation.specs.declared.Was.TheVariants.{Idle, Release, Stolen}
-use Rattle.allocation.specs.declared.Taken.{Taken}
-use Rattle.allocation.specs.Allocation.{cleared, or_else, choice, allocated, note_on}
 use Rattle.silence.specs.declared.Leaving.TheVariants.{One}
 use Rattle.silence.specs.Silence.{silenced}
 use Rattle.instrument.specs.declared.Instrument.{Instrument}
 use Rattle.instrument.specs.Instrument as instrument
 use Rattle.other_messages.specs.OtherMessages.{play_note_off, play_control, kind_set, play_program}
+use Rattle.playing.specs.declared.Answer.{Answer}
 use Rattle.playing.specs.declared.Answer.TheVariants as answer
-use Rattle.playing.specs.Playing.{replied, reply_of, play_note_on, played, number_of}
+use Rattle.playing.specs.Playing.{replied, play_note_on, played, number_of}
 use Rattle.exclusive.specs.Exclusive.{new_table, judged_reply, mip_taken, kind_reply, exclusive}
 use Rattle.reports.specs.Reports.{reported}
 use Rattle.device.specs.declared.Device.{Device}
@@ -62,6 +52,8 @@ use Rattle.events.specs.Events.{report_taken, taken}
 use Rattle.event_line.specs.Log.{event_of, lines_of}
 use Rattle.event_line.proofs.Lines.{Loggable, event_loggable}
 use Rattle.arranging.specs.Arranging.{fresh, after_line, records}
+use Rattle.reached.specs.Reasons.{InAnswer, OfBytes}
+use Rattle.reached.proofs.Reasons.{of_byte}
 use Rattle.arranged.specs.Laws.{NoOtherNumber}
 
 -- ---- P stays
@@ -127,102 +119,35 @@ polyphony_stays d (Report g) = go (leb d.instrument.polyphony g) (is_idle (at d.
 
 -- ---- the numbers of a byte
 
-abbrev Few : Option ℕ → Type 0
-Few none = Unit {0}
-Few (some n) = n ≤ 11
+abbrev Few : Refusal → Type 0
+Few r = number r ≤ 11
 
-few_else : (f : std.Option ℕ) (w : Was) (t : Result Taken Refusal) (c k : ℕ)
-    → Few (number_of (reply_of t c k)) → Few (number_of (reply_of (or_else f w t) c k))
-few_else (Some g) w t c k h = tt
-few_else None w t c k h = h
+few_of_bytes : OfBytes Few
+few_of_bytes = record {
+  stray = omega arith;
+  cut = omega arith;
+  long = omega arith;
+  odd = omega arith;
+  no_channel = omega arith;
+  twice = omega arith;
+  falling = omega arith;
+  masked = omega arith;
+  nothing = omega arith;
+}
 
-few_choice : (s : Generators) (t : Table) (p c d k : ℕ) → Few (number_of (reply_of (choice s t p c) d k))
-unfolding choice
-few_choice s t p c d k =
-    let theft : Result Taken Refusal = or_else (victim s t p c) Stolen (Err refusal.NothingToSteal) in
-    few_else (lowest_idle s p) Idle (or_else (oldest Releasing s) Release theft) d k
-    (few_else (oldest Releasing s) Release theft d k
-    (few_else (victim s t p c) Stolen (Err refusal.NothingToSteal) d k (omega arith)))
-
-few_allocated : (s r : Generators) (c k : ℕ) (t : Result Taken Refusal) → Few (number_of (reply_of t c k))
-    → Few (number_of (reply_of (allocated s r c k t).taken c k))
-few_allocated s r c k (Ok t) h = tt
-few_allocated s r c k (Err e) h = h
-
-few_played : (i : Instrument) (m : Message) → Few (number_of (played i m).answer)
-unfolding played play_note_on note_on
-few_played i (message.NoteOn c k) =
-    go (cleared (instrument.is_rhythm i c) c k i.generators) (is_masked (share_of i.table i.polyphony c))
-  where
-    go : (s : Generators) (b : Bool)
-        → Few (number_of (reply_of (if b then record { taken = Err refusal.Masked; generators = i.generators }
-        else allocated i.generators s c k (choice s i.table i.polyphony c)).taken c k))
-    go s true = omega arith
-    go s false = few_allocated i.generators s c k
-        (choice s i.table i.polyphony c) (few_choice s i.table i.polyphony c c k)
-few_played i (message.NoteOff c k) = tt
-few_played i (message.Control c n v) = tt
-few_played i (message.Program c n) = tt
-few_played i (message.Bend c msb lsb) = tt
-few_played i message.Other = tt
-
-abbrev FewReasons : Option Refusal → Type 0
-FewReasons none = Unit {0}
-FewReasons (some r) = number r ≤ 11
-
-few_faulty : (before : List Entry) (v : ℕ) (l : List Entry) → FewReasons (faulty before v l)
-unfolding faulty
-few_faulty before v [] = tt
-few_faulty before v (e ∷ l) = go (ltb 16 e.channel) (listed e.channel before)
-    (ltb e.value v) (few_faulty (before ++ (e ∷ [])) e.value l)
-  where
-    go : (a b c : Bool) → FewReasons (faulty (before ++ (e ∷ [])) e.value l)
-        → FewReasons (if a then some refusal.MipNoChannel else if b then some refusal.MipListedTwice
-        else if c then some refusal.MipFallingValue else faulty (before ++ (e ∷ [])) e.value l)
-    go true b c ih = omega arith
-    go false true c ih = omega arith
-    go false false true ih = omega arith
-    go false false false ih = ih
-
-few_judged : (i : Instrument) (l : List ℕ) → Few (number_of (judged_reply i (judged l)).answer)
-unfolding judged
-few_judged i l = go (ltb 32 (length l)) (eqb (length l) 0 || eqb (length l % 2) 1)
-  where
-    by : (o : Option Refusal) → FewReasons o → Few (number_of (judged_reply i (judged_by (pairs l) o)).answer)
-    by none h = tt
-    by (some r) h = h
-
-    go : (a b : Bool)
-        → Few (number_of (judged_reply i (if a then Err refusal.MipTooLong
-        else if b then Err refusal.MipOddLength else judged_pairs (pairs l))).answer)
-    go true b = omega arith
-    go false true = omega arith
-    go false false = by (faulty [] 0 (pairs l)) (few_faulty [] 0 (pairs l))
-
-few_kind : (i : Instrument) (l : List ℕ) (k : Kind) → Few (number_of (kind_reply i l k).answer)
-unfolding mip_taken
-few_kind i l Mip = few_judged i _
-few_kind i l SystemOn = tt
-few_kind i l Other = tt
-
-few_heard : (i : Instrument) (p : Parser) (c : Completed) → Few (number_of (heard i p c).answer)
-unfolding heard exclusive
-few_heard i p completed.Nothing = tt
-few_heard i p completed.Stray = omega arith
-few_heard i p completed.Cut = omega arith
-few_heard i p (completed.Message s a b) = few_played i (decode s a b)
-few_heard i p completed.SysEx = few_kind i (body p) (kind_of i.id (body p))
-
-few_some : (o : Option ℕ) (n : ℕ) → Few o → o ≡ some n → n ≤ 11
-few_some none n f h = impossible (cc)
-few_some (some m) n f h = let e : ◌≡◌ {A = ℕ} m n = cc in omega arith
+few_some : (a : Answer) (n : ℕ) → InAnswer Few a → number_of a ≡ some n → n ≤ 11
+few_some answer.Nothing n f h = impossible (cc)
+few_some answer.Done n f h = impossible (cc)
+few_some (answer.Note c k g w) n f h = impossible (cc)
+few_some (answer.NoNote r c k) n f h = let e : ◌≡◌ {A = ℕ} (number r) n = cc in omega arith
+few_some (answer.Number r) n f h = let e : ◌≡◌ {A = ℕ} (number r) n = cc in omega arith
 
 -- ---- the numbers of an event
 
 few_taken : (d : Device) (e : Event) (n : ℕ) → d.instrument.polyphony ≡ 64
     → Loggable e → number_of (taken d e).answer ≡ some n → (n ≡ 13 → ⊥) → n ≤ 11
 unfolding taken byte_taken report_taken reported
-few_taken d (Byte b) n p k h q = few_some _ n (few_heard d.instrument d.parser (split d.parser b).completed) h
+few_taken d (Byte b) n p k h q = few_some _ n (of_byte Few few_of_bytes d b) h
 few_taken d (Report g) n p k h q =
     go (is_idle (at d.instrument.generators g)) (rw (lt-leb d.instrument.polyphony g (omega arith)) at h)
   where

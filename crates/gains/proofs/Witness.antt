@@ -2,8 +2,8 @@
 -- promises where a hand can check it; then what the laws of a table say of any table. A definition loosened behind its
 -- name would not give these facts.
 -- Assumes nothing.
-use Rattle.std.specs.Prelude.{Result}
-use mathlib.Core.Path.{◌≡◌, refl}
+use Rattle.std.specs.Prelude.{Result, Ok, Err}
+use mathlib.Core.Path.{◌≡◌, refl, ap}
 use mathlib.Core.Bool.{true, false}
 use mathlib.Core.Option.{some, none}
 use Prim.Native.Nat.{ℕ, suc, ◌+◌, ◌-◌, ◌*◌, ◌≤◌, ◌<◌}
@@ -12,10 +12,12 @@ use lib.Dec.{lit≤}
 use lib.IntN.{ℤ, pos, negsuc}
 use lib.Ieee.{nan, inf, fin, of_bits}
 use Rattle.channels.specs.declared.Channel.{Channel}
+use Rattle.loops.proofs.Tests.{impossible}
 use Rattle.refusals.specs.declared.Refusal.{Refusal}
+use Rattle.refusals.specs.declared.Refusal.TheVariants as refusal
 use Rattle.gains.specs.declared.Gains.{Gains}
 use Rattle.gains.specs.Within.{Within, AtMost1, Is0}
-use Rattle.gains.specs.Gains.{weight, Weighs, gains_number, gains_in, Answered, AnsweredOf}
+use Rattle.gains.specs.Gains.{weight, Weighs, gains_number, gains_in, Answered, AnsweredOf, ForItsReason}
 
 -- ---- one half, beside fractions that are exactly a millionth and a little more away
 
@@ -88,6 +90,12 @@ accepted a h = h.0
 
 pub refused : (a : Result Gains Refusal) → Answered 0 0 128 a → gains_number a ≡ some 24
 refused a h = h.0
+
+-- not a reason that holds the same number
+pub refused_for_its_reason : (a : Result Gains Refusal) → Answered 0 0 128 a → ForItsReason a
+    → a ≡ Err refusal.GainsOutOfRange
+refused_for_its_reason (Ok g) h s = impossible (cc)
+refused_for_its_reason (Err r) h s = ap Err s
 
 pub refused-silent : (a : Result Gains Refusal) → Answered 0 0 128 a
     → gains_in a ≡ record { left = fin false 0 (pos 0); right = fin false 0 (pos 0) }

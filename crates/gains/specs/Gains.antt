@@ -84,6 +84,11 @@ gains_in (Err r) = silent
 abbrev pub Answered : ℕ → ℕ → ℕ → Result Gains Refusal → Type 0
 Answered e v p a = (gains_number a ≡ number_for e v p) × Gives (is_out e v p) e v p (gains_in a)
 
+-- R8.24: the reason itself too, since `Other` could hold the same number
+abbrev pub ForItsReason : Result Gains Refusal → Type 0
+ForItsReason (Ok g) = Unit {0}
+ForItsReason (Err r) = r ≡ refusal.GainsOutOfRange
+
 -- R12.10: the same, by the numbers of a channel in the record
 abbrev pub AnsweredOf : Channel → Result Gains Refusal → Type 0
 AnsweredOf c a = Answered c.expression c.volume c.pan a

@@ -4,7 +4,7 @@
 #![tactic(auto)]
 
 ghost use Rattle.std.specs.Prelude.{◌≡◌, ◌≤◌, ◌<◌, ◌+◌, ◌-◌, ◌*◌};
-ghost use Rattle.gains.specs.Gains.{weight, panned, Near, is_out, Answered, AnsweredOf};
+ghost use Rattle.gains.specs.Gains.{weight, panned, Near, is_out, Answered, AnsweredOf, ForItsReason};
 
 use channels::Channel;
 use refusals::Refusal;
@@ -78,7 +78,7 @@ fn is_out(expression: u8, volume: u8, pan: u8) -> bool
 
 // The gains of a channel with this expression, volume and pan, each 0 to 127.
 pub fn gains_of(expression: u8, volume: u8, pan: u8) -> Result<Gains, Refusal>
-    ensures { Answered expression volume pan result }
+    ensures { Answered expression volume pan result × ForItsReason result }
 {
     if is_out(expression, volume, pan) {
         return Err(Refusal::GainsOutOfRange);
@@ -88,7 +88,7 @@ pub fn gains_of(expression: u8, volume: u8, pan: u8) -> Result<Gains, Refusal>
 
 // The gains of a channel by its numbers in the record.
 pub fn channel_gains(c: Channel) -> Result<Gains, Refusal>
-    ensures { AnsweredOf c result }
+    ensures { AnsweredOf c result × ForItsReason result }
 {
     gains_of(c.expression, c.volume, c.pan)
 }

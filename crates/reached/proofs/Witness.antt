@@ -1,9 +1,9 @@
 -- The claim bites. First its words, for any channel, record and start: a claim emptied behind its name would not give
 -- these facts. Then what a driver draws from the claim alone, for any list; and lists, computed from the definitions:
 -- one that reaches every bound of a channel at once, on channel 16 and behind a refused start, and one to the kind of
--- rhythm.
+-- rhythm. The same of the claim on reasons: its words, what a driver draws from it, and calls that are refused.
 -- Assumes nothing.
-use mathlib.Core.Path.{◌≡◌, refl}
+use mathlib.Core.Path.{◌≡◌, refl, subst}
 use mathlib.Core.Bool.{Bool, true, false, ◌||◌}
 use mathlib.Core.Logic.{◌⊎◌, inl, inr}
 use mathlib.Core.List.{List, [], ◌∷◌}
@@ -32,8 +32,29 @@ use Rattle.events.specs.declared.Event.{Event}
 use Rattle.events.specs.declared.Event.TheVariants.{Byte, Report}
 use Rattle.events.specs.Events.{report_taken, taken}
 use Rattle.gains.specs.Gains.{number_for}
+use Rattle.std.specs.Prelude.{Result, Err}
+use Rattle.refusals.specs.declared.Refusal.{Refusal}
+use Rattle.refusals.specs.declared.Refusal.TheVariants as refusal
+use Rattle.splitter.specs.declared.Parser.{Parser}
+use Rattle.splitter.specs.declared.Completed.{Completed}
+use Rattle.message.specs.declared.Message.{Message}
+use Rattle.table.specs.declared.Table.{Table}
+use Rattle.mip.specs.Mip.{judged}
+use Rattle.generators.specs.declared.Generators.{Generators}
+use Rattle.allocation.specs.Allocation.{note_on}
+use Rattle.instrument.specs.declared.Instrument.{Instrument}
+use Rattle.playing.specs.declared.Answer.TheVariants as answer
+use Rattle.exclusive.specs.Exclusive.{exclusive}
+use Rattle.queries.specs.Queries.{generator_query, mask_query, share_query}
+use Rattle.service.specs.Page.{page_answer}
+use Rattle.pitch.specs.Pitch.{pitch_of}
+use Rattle.gains.specs.declared.Gains.{Gains}
+use Rattle.gains.specs.Gains.{ForItsReason}
+use Rattle.song.specs.Song.{song_answer}
 use Rattle.reached.specs.Reached.{InRange, AllInRange, after, AlwaysInRange}
+use Rattle.reached.specs.Reasons.{InAnswer, InResult, OfBytes, IsNamed, AlwaysNamed}
 use Rattle.reached.proofs.Kept.{always_in_range}
+use Rattle.reached.proofs.Reasons.{always_named}
 
 -- ---- the words
 
@@ -132,3 +153,100 @@ unfolding begun stored one_data_byte completed data_byte opened ended status_byt
     of-channel.rhythm_by of-controllers.stored of-controllers.controlled silent fresh channel_at replaced channel_of
     with_channel is_rhythm notes_after play_control kind_set play_program played started heard byte_taken taken after
 rhythm_reached = refl
+
+-- ---- reasons: the words
+
+pub other_has_no_name : (n : ℕ) → IsNamed (refusal.Other n) → ⊥
+other_has_no_name n h = h n refl
+
+module _ (P : Refusal → Type 0) (r : Refusal) where
+  pub of_a_note : (c k : ℕ) → InAnswer P (answer.NoNote r c k) → P r
+  of_a_note c k h = h
+
+  pub of_a_number : InAnswer P (answer.Number r) → P r
+  of_a_number h = h
+
+  pub of_a_result : (A : Type 0) → InResult {A = A} P (Err r) → P r
+  of_a_result A h = h
+
+-- no other reason than R8.3 to R8.11 is asked for
+pub nine_reasons : (P : Refusal → Type 0) → P refusal.Stray → P refusal.Cut → P refusal.MipTooLong
+    → P refusal.MipOddLength → P refusal.MipNoChannel → P refusal.MipListedTwice → P refusal.MipFallingValue
+    → P refusal.Masked → P refusal.NothingToSteal → OfBytes P
+nine_reasons P a b c d e f g h i = record {
+  stray = a;
+  cut = b;
+  long = c;
+  odd = d;
+  no_channel = e;
+  twice = f;
+  falling = g;
+  masked = h;
+  nothing = i;
+}
+
+module _ (a : AlwaysNamed) where
+  pub at_any_start : (p id : ℕ) → InAnswer IsNamed (started p id).answer
+  at_any_start = a.start
+
+  pub at_any_event : (d : Device) (e : Event) → InAnswer IsNamed (taken d e).answer
+  at_any_event = a.event
+
+  pub of_whatever_completed : (i : Instrument) (p : Parser) (c : Completed) → InAnswer IsNamed (heard i p c).answer
+  of_whatever_completed = a.completed
+
+  pub of_any_message : (i : Instrument) (m : Message) → InAnswer IsNamed (played i m).answer
+  of_any_message = a.message
+
+  pub of_any_note : (s : Generators) (t : Table) (p : ℕ) (rhythm : Bool) (c k : ℕ)
+      → InResult IsNamed (note_on s t p rhythm c k).taken
+  of_any_note = a.note
+
+  pub of_any_sysex : (i : Instrument) (l : List ℕ) → InAnswer IsNamed (exclusive i l).answer
+  of_any_sysex = a.sysex
+
+  pub of_any_table : (l : List ℕ) → InResult IsNamed (judged l)
+  of_any_table = a.table
+
+  pub of_any-report : (i : Instrument) (g : ℕ) → InAnswer IsNamed (reported i g).answer
+  of_any-report = a.report
+
+  pub of_any_generator : (d : Device) (g : ℕ) → InResult IsNamed (generator_query d g)
+  of_any_generator = a.generator
+
+  pub of_any_mask : (d : Device) (c : ℕ) → InResult IsNamed (mask_query d c)
+  of_any_mask = a.mask
+
+  pub of_any_share : (d : Device) (c : ℕ) → InResult IsNamed (share_query d c)
+  of_any_share = a.share
+
+  pub of_any_page : (buffer : List ℕ) → InResult IsNamed (page_answer buffer)
+  of_any_page = a.page
+
+  pub of_any_pitch : (k s b : ℕ) → InResult IsNamed (pitch_of k s b)
+  of_any_pitch = a.pitch
+
+  pub of_any_gains : (g : Result Gains Refusal) → ForItsReason g → InResult IsNamed g
+  of_any_gains = a.gains
+
+  pub of_any_song : (p n : ℕ) (buffer : List ℕ) → InResult IsNamed (song_answer p n buffer)
+  of_any_song = a.song
+
+-- ---- reasons: what a driver draws from the claim alone, for any record and event: the case for `Other` is never met
+
+pub no_other_answer : (d : Device) (e : Event) (n : ℕ) → (taken d e).answer ≡ answer.Number (refusal.Other n) → ⊥
+no_other_answer d e n h = subst (InAnswer IsNamed) h (always_named.event d e) n refl
+
+pub no_other_note : (d : Device) (e : Event) (n c k : ℕ)
+    → (taken d e).answer ≡ answer.NoNote (refusal.Other n) c k → ⊥
+no_other_note d e n c k h = subst (InAnswer IsNamed) h (always_named.event d e) n refl
+
+-- ---- reasons: calls that are refused
+
+pub refused_start : (started 65 0).answer ≡ answer.Number refusal.WrongPolyphony
+unfolding started
+refused_start = refl
+
+pub refused_query : (d : Device) → mask_query d 17 ≡ Err refusal.NoChannel
+unfolding mask_query
+refused_query d = refl

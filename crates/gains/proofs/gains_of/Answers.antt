@@ -30,9 +30,11 @@ given e v p q g h s left right =
 
 pub returns-then-is_out : goal.returns-then-is_out
 returns-then-is_out c =
-    refused c.args.expression c.args.volume c.args.pan (sym c.is_out.ensures ∙ c.if-is_out.true)
+    (refused c.args.expression c.args.volume c.args.pan (sym c.is_out.ensures ∙ c.if-is_out.true), refl)
 
 pub returns : goal.returns
-returns c =
-    given c.args.expression c.args.volume c.args.pan c.place_of.result c.gains_at.result
-    (sym c.is_out.ensures ∙ c.if-is_out.false) c.place_of.ensures.0 c.gains_at.ensures.0 c.gains_at.ensures.1
+returns c = (
+  given c.args.expression c.args.volume c.args.pan c.place_of.result c.gains_at.result
+      (sym c.is_out.ensures ∙ c.if-is_out.false) c.place_of.ensures.0 c.gains_at.ensures.0 c.gains_at.ensures.1,
+  tt,
+)

@@ -7,4 +7,4 @@ use Rattle.vectors.proofs.sounds.put_channel_levels.Goals as goal
 pub put_gains-requires : goal.put_gains-requires
 put_gains-requires c =
     let x = c.args.c in
-    numbers x.expression x.volume x.pan c.channel_gains.result c.channel_gains.ensures
+    numbers x.expression x.volume x.pan c.channel_gains.result c.channel_gains.ensures.0

@@ -7,4 +7,4 @@ use Rattle.vectors.proofs.sounds.put_levels_asked.Goals as goal
 pub put_gains-requires : goal.put_gains-requires
 put_gains-requires c =
     let a = c.args in
-    numbers a.expression a.volume a.pan c.gains_of.result c.gains_of.ensures
+    numbers a.expression a.volume a.pan c.gains_of.result c.gains_of.ensures.0
