@@ -13,14 +13,10 @@ use Rattle.device.specs.Device.{is_wrong_p, fresh_output, started}
 use Rattle.listed.specs.declared.Awaits.{Awaits}
 use Rattle.listed.specs.declared.Awaits.TheVariants.{Polyphony, Id, Midi, Refused}
 use Rattle.listed.specs.declared.Lister.{Lister}
-use Rattle.listed.specs.Listing.{behind_start, start_lister, after_midi, after_by, after, after_all}
+use Rattle.listed.specs.Listing.{behind_start, start_lister, after_midi, after_by, after, after_all, InAwaits}
 
--- what is said of a reason, said of what a byte is awaited by
-abbrev pub InAwaits : (Refusal → Type 0) → Awaits → Type 0
-InAwaits P Polyphony = Unit {0}
-InAwaits P (Id p) = Unit {0}
-InAwaits P Midi = Unit {0}
-InAwaits P (Refused r) = P r
+pub of_the_reason_kept : (P : Refusal → Type 0) (r : Refusal) → InAwaits P (Refused r) → P r
+of_the_reason_kept P r h = h
 
 module _ (P : Refusal → Type 0) (wrong_p : P refusal.WrongPolyphony) (wrong_id : P refusal.WrongId) where
   of_start : (p id : ℕ) → InAwaits P (start_lister (started p id)).awaits

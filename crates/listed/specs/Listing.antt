@@ -2,6 +2,7 @@
 use Rattle.std.specs.Prelude.{ℕ, ◌+◌, ◌≡◌, Bool, true, false, List, [], ◌∷◌, ◌++◌, ltb, if◌then◌else◌, Some, None}
 use Rattle.text.specs.Text.{Put}
 use Rattle.lines.specs.Lines.{line_of}
+use Rattle.refusals.specs.declared.Refusal.{Refusal}
 use Rattle.playing.specs.declared.Answer.{Answer}
 use Rattle.playing.specs.declared.Answer.TheVariants as answer
 use Rattle.device.specs.declared.Output.{Output}
@@ -84,6 +85,13 @@ listed_by l (b ∷ bs) = line l b ++ listed_by (after l b) bs
 unfoldable pub after_all : Lister → List ℕ → Lister
 after_all l [] = l
 after_all l (b ∷ bs) = after_all (after l b) bs
+
+-- what is said of a reason, said of the one that is kept, if one is
+abbrev pub InAwaits : (Refusal → Type 0) → Awaits → Type 0
+InAwaits P Polyphony = Unit {0}
+InAwaits P (Id p) = Unit {0}
+InAwaits P Midi = Unit {0}
+InAwaits P (Refused r) = P r
 
 -- R16.1: the end of the input: a missing P or ID is 0
 abbrev pub missing : Awaits → List ℕ

@@ -1,5 +1,5 @@
 -- Why calls are refused: what holds of the nine reasons for which bytes are refused holds of the reason of every answer
--- to a byte, by each definition on the way from a byte to its answer; each other call has its reasons in one definition.
+-- to a byte, by each definition on the way from the byte to it; each other call has its reasons in one definition.
 -- Assumes nothing.
 use Rattle.std.specs.Prelude.{Some, None, Result, Ok, Err, if◌then◌else◌}
 use Rattle.std.specs.Prelude as std
@@ -95,8 +95,9 @@ module _ (P : Refusal → Type 0) (w : OfBytes P) where
   pub of_message : (i : Instrument) (m : Message) → InAnswer P (played i m).answer
   unfolding played play_note_on
   of_message i (message.NoteOn c k) =
+      let s = i.generators in
       let r = instrument.is_rhythm i c in
-      of_reply (note_on i.generators i.table i.polyphony r c k).taken c k (of_note i.generators i.table i.polyphony r c k)
+      of_reply (note_on s i.table i.polyphony r c k).taken c k (of_note s i.table i.polyphony r c k)
   of_message i (message.NoteOff c k) = tt
   of_message i (message.Control c n v) = tt
   of_message i (message.Program c n) = tt

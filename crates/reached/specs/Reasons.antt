@@ -1,5 +1,5 @@
--- Why calls are refused, whatever they are given: for a reason of section 8 that has a name, never for `Other`, which an
--- answer may hold that is put into words or numbers. A driver that decides by the reason needs no case for it.
+-- Why calls are refused, whatever they are given: for a reason of section 8 that has a name, never for `Other`, which
+-- is there for an answer that is put into words or numbers. A driver that decides by the reason needs no case for it.
 -- Assumes nothing.
 use Rattle.std.specs.Prelude.{ℕ, ◌≡◌, Bool, List, Result, Ok, Err}
 use Rattle.refusals.specs.declared.Refusal.{Refusal}
