@@ -13,10 +13,16 @@ use Rattle.device.specs.Device.{is_wrong_p, fresh_output, started}
 use Rattle.listed.specs.declared.Awaits.{Awaits}
 use Rattle.listed.specs.declared.Awaits.TheVariants.{Polyphony, Id, Midi, Refused}
 use Rattle.listed.specs.declared.Lister.{Lister}
-use Rattle.listed.specs.Listing.{behind_start, start_lister, after_midi, after_by, after, after_all, InAwaits}
+use Rattle.listed.specs.Listing.{new_lister, behind_start, start_lister, after_midi, after_by, after, after_all}
+use Rattle.listed.specs.Listing.{InAwaits}
 
 pub of_the_reason_kept : (P : Refusal → Type 0) (r : Refusal) → InAwaits P (Refused r) → P r
 of_the_reason_kept P r h = h
+
+-- nothing is asked before the first byte
+pub at_the_beginning : (P : Refusal → Type 0) → InAwaits P new_lister.awaits
+unfolding new_lister
+at_the_beginning P = tt
 
 module _ (P : Refusal → Type 0) (wrong_p : P refusal.WrongPolyphony) (wrong_id : P refusal.WrongId) where
   of_start : (p id : ℕ) → InAwaits P (start_lister (started p id)).awaits
